@@ -1,0 +1,52 @@
+-- Laws of a value or a refusal: how a chain of checks is taken apart. Assumes nothing.
+use Prim.Native.Nat.{ℕ}
+use mathlib.Core.Path.{_≡_, refl, sym, ap}
+use mathlib.Core.Bool.{Bool, true, false, cond}
+use native.Mathlib.Omega.{arith}
+use Rattle.ground.specs.Refusal.{Or, wrong, right, Read, check, numberOf, _>>=_, _>>_}
+
+-- a value is no refusal
+pub never-right : {E A : Type 0} {e : E} {a : A} → wrong e ≡ right a → ⊥
+never-right {E} {A} {e} {a} same = let z : _≡_ {A = ℕ} 0 1 = cc in omega arith
+
+-- two values, or two refusals, that are one
+pub same-right : {E A : Type 0} {a b : A} → _≡_ {A = Or E A} (right a) (right b) → a ≡ b
+same-right {E} {A} {a} {b} same = cc
+
+pub same-wrong : {E A : Type 0} {d e : E} → _≡_ {A = Or E A} (wrong d) (wrong e) → d ≡ e
+same-wrong {E} {A} {d} {e} same = cc
+
+-- the number of a check and what follows it
+pub number-of-check : {A : Type 0} (met : Bool) (number : ℕ) (rest : Read A) → numberOf (check met number >> rest) ≡ cond met (numberOf rest) number
+number-of-check true number rest = refl
+number-of-check false number rest = refl
+
+-- with a number there is a refusal
+pub refused-by : {A : Type 0} (read : Read A) → (numberOf read ≡ 0 → ⊥) → read ≡ wrong (numberOf read)
+refused-by (wrong number) some = refl
+refused-by (right value) some = absurd (some refl)
+
+-- with none the check was met
+pub met-by : {A : Type 0} (met : Bool) (number : ℕ) (rest : Read A) → (number ≡ 0 → ⊥) → numberOf (check met number >> rest) ≡ 0 → met ≡ true
+met-by true number rest some none = refl
+met-by false number rest some none = absurd (some none)
+
+-- a check that is met leaves what follows it, and one that is not is the refusal
+pub after-met : {A : Type 0} {met : Bool} (number : ℕ) (rest : Read A) → met ≡ true → (check met number >> rest) ≡ rest
+after-met number rest met = rw met
+
+pub after-unmet : {A : Type 0} {met : Bool} (number : ℕ) (rest : Read A) → met ≡ false → (check met number >> rest) ≡ wrong number
+after-unmet number rest unmet = rw unmet
+
+-- what is no refusal by this number comes after the check was met
+pub passed-by :
+    {A : Type 0} (met : Bool) (number : ℕ) (rest result : Read A) → (wrong number ≡ result → ⊥) → (check met number >> rest) ≡ result
+    → (met ≡ true) × (rest ≡ result)
+passed-by true number rest result other e = (refl, e)
+passed-by false number rest result other e = absurd (other e)
+
+-- a refusal by this number that nothing later gives is this check's
+pub unmet-by :
+    {A : Type 0} (met : Bool) (number : ℕ) (rest : Read A) → (rest ≡ wrong number → ⊥) → (check met number >> rest) ≡ wrong number → met ≡ false
+unmet-by true number rest later e = absurd (later e)
+unmet-by false number rest later e = refl

@@ -1,0 +1,7 @@
+-- The definitions that several rooms share, each file for one thing of the paper.
+pub mod Refusal
+pub mod Limits
+pub mod Digits
+pub mod Buffer
+pub mod Outcome
+pub mod Text

@@ -1,0 +1,6 @@
+-- The limits of the paper that more than one room tests, each in one place. Assumes nothing.
+use Prim.Native.Nat.{ℕ}
+
+-- "an hour is a whole number of hundredths, 0 to 999,999"
+abbrev pub lastHour : ℕ
+lastHour = 999_999

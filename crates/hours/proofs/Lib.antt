@@ -1,0 +1,6 @@
+-- The laws of this room, by what they are about.
+pub mod Classes
+pub mod Scanning
+pub mod Spelling
+pub mod Writing
+pub mod Promises

@@ -1,0 +1,176 @@
+-- Reading goes by the spelling: a field reads as an hour exactly when it spells it, over any decimal mark that is no digit. Assumes nothing.
+use Prim.Native.Nat.{ℕ, zero, suc, _+_, _*_, _≤_, _<_}
+use mathlib.Core.Path.{_≡_, refl, sym, ap, _∙_, subst}
+use mathlib.Core.Bool.{Bool, true, false, cond}
+use mathlib.Core.List.{List, [], _∷_, _++_, append-nil, append-assoc}
+use mathlib.Core.Logic.{_↔_}
+use lib.ListN.{length, length-append}
+use lib.Dec.{leb}
+use native.Mathlib.Omega.{arith}
+use borrow.Author.Tests.{leb-true}
+use Rattle.ground.specs.Refusal.{Read, Or, wrong, right}
+use Rattle.ground.specs.Limits.{lastHour}
+use Rattle.ground.specs.Digits.{isDigit, digitOf, allDigits, valueAfter, valueOf, Plain}
+use Rattle.ground.proofs.Tests.{first-of, second-of}
+use Rattle.ground.proofs.Refusal.{never-right, same-right, same-wrong}
+use Rattle.ground.proofs.Digits.{digit-high, plain-one, plain-more, plain-worth, value-more}
+use Rattle.hours.specs.Spelling.{inHundredths, Spells}
+use Rattle.hours.specs.Spelling.Spells.{hours, tenths, hundredths}
+use Rattle.hours.specs.Classes.{classOf}
+use Rattle.hours.specs.Reading.{takesDigit, nextAtDigit, nextAtMark, next, scanned, ended, hourOf}
+use Rattle.hours.specs.declared.Stage.{Stage}
+use Rattle.hours.specs.declared.Stage.the-variants.{Start, Whole, Marked, Tenth, Hundredth, Broken}
+use Rattle.hours.proofs.Classes.{class-of-digit, class-of-mark, after-another, Seen, a-digit, the-mark, another, seen}
+use Rattle.hours.proofs.Scanning.{scan-append, scan-plain}
+
+-- a word that is a whole part, and what it is worth
+record WholePart (word : List ℕ) (whole : ℕ) : Type 0 where
+  plain : Plain word
+  worth : valueOf word ≡ whole
+
+-- a word, the mark, and digits after it
+record Front (mark : ℕ) (front : List ℕ) (whole : ℕ) (after : List ℕ) : Type 0 where
+  word : List ℕ
+  part : WholePart word whole
+  spelled : front ≡ word ++ mark ∷ after
+
+-- what has been read where the reading has come to a stage
+abbrev Reached : ℕ → List ℕ → Stage → Type 0
+Reached mark front Start = front ≡ []
+Reached mark front (Whole whole) = WholePart front whole
+Reached mark front (Marked whole) = Front mark front whole []
+Reached mark front (Tenth whole tenth) =
+    (first : ℕ) × (isDigit first ≡ true) × (digitOf first ≡ tenth) × Front mark front whole (first ∷ [])
+Reached mark front (Hundredth whole tenth hundredth) =
+    (first : ℕ) × (second : ℕ) × (isDigit first ≡ true) × (isDigit second ≡ true) × (digitOf first ≡ tenth) × (digitOf second ≡ hundredth)
+    × Front mark front whole (first ∷ second ∷ [])
+Reached mark front Broken = Unit {0}
+
+-- a byte more behind the mark
+front-more : {mark : ℕ} {front : List ℕ} {whole : ℕ} {after : List ℕ} (byte : ℕ) → Front mark front whole after → Front mark (front ++ byte ∷ []) whole (after ++ byte ∷ [])
+front-more {mark} {after = after} byte f =
+    record { word = f .word; part = f .part; spelled = ap (λ (l : List ℕ). l ++ byte ∷ []) (f .spelled) ∙ append-assoc (f .word) (mark ∷ after) (byte ∷ []) }
+
+-- a digit more in the whole part
+part-more :
+    (front : List ℕ) (whole byte : ℕ) → isDigit byte ≡ true → takesDigit whole ≡ true → WholePart front whole
+    → WholePart (front ++ byte ∷ []) (whole * 10 + digitOf byte)
+part-more front whole byte digit takes p =
+    let low : 1 ≤ whole = leb-true _ _ (first-of (leb 1 whole) (leb whole 999) takes) in
+    let high : whole ≤ 999 = leb-true _ _ (second-of (leb 1 whole) (leb whole 999) takes) in
+    record {
+      plain = plain-more front byte (p .plain) (omega (arith, p .worth)) (omega (arith, p .worth)) digit;
+      worth = value-more front byte ∙ ap (λ (w : ℕ). w * 10 + digitOf byte) (p .worth);
+    }
+
+reached-digit :
+    (mark : ℕ) (front : List ℕ) (stage : Stage) (byte : ℕ) → isDigit byte ≡ true → Reached mark front stage
+    → Reached mark (front ++ byte ∷ []) (nextAtDigit stage (digitOf byte))
+unfolding valueOf valueAfter
+reached-digit mark front Start byte digit r =
+    rw r (record { plain = plain-one byte digit; worth = omega arith })
+reached-digit mark front (Whole whole) byte digit r = go (takesDigit whole) refl
+  where
+    go : (takes : Bool) → takesDigit whole ≡ takes → Reached mark (front ++ byte ∷ []) (cond takes (Whole (whole * 10 + digitOf byte)) Broken)
+    go true takes = part-more front whole byte digit takes r
+    go false takes = tt
+reached-digit mark front (Marked whole) byte digit r = (byte, digit, refl, front-more byte r)
+reached-digit mark front (Tenth whole tenth) byte digit r = (r .0, byte, r .1, digit, r .2, refl, front-more byte (r .3))
+reached-digit mark front (Hundredth whole tenth hundredth) byte digit r = tt
+reached-digit mark front Broken byte digit r = tt
+
+reached-mark : (mark : ℕ) (front : List ℕ) (stage : Stage) → Reached mark front stage → Reached mark (front ++ mark ∷ []) (nextAtMark stage)
+reached-mark mark front Start r = tt
+reached-mark mark front (Whole whole) r = record { word = front; part = r; spelled = refl }
+reached-mark mark front (Marked whole) r = tt
+reached-mark mark front (Tenth whole tenth) r = tt
+reached-mark mark front (Hundredth whole tenth hundredth) r = tt
+reached-mark mark front Broken r = tt
+
+-- the only refusal of a reading is 3
+ended-by-three : (stage : Stage) {number : ℕ} → ended stage ≡ wrong number → number ≡ 3
+ended-by-three Start e = sym (same-wrong e)
+ended-by-three (Whole whole) e = absurd (never-right (sym e))
+ended-by-three (Marked whole) e = sym (same-wrong e)
+ended-by-three (Tenth whole tenth) e = absurd (never-right (sym e))
+ended-by-three (Hundredth whole tenth hundredth) e = absurd (never-right (sym e))
+ended-by-three Broken e = sym (same-wrong e)
+
+-- an hour that is spelled is at most 9999,99, in at most seven bytes
+spelled-at-most : {mark : ℕ} (field : List ℕ) (hour : ℕ) → Spells mark field hour → hour ≤ lastHour
+spelled-at-most field hour (hours plain e) = omega (arith, plain-worth field plain)
+spelled-at-most field hour (tenths word tenth plain digit spelled e) = omega (arith, plain-worth word plain, digit-high tenth digit)
+spelled-at-most field hour (hundredths word tenth hundredth plain digit other spelled e) =
+    omega (arith, plain-worth word plain, digit-high tenth digit, digit-high hundredth other)
+
+spelled-length : {mark : ℕ} (field : List ℕ) (hour : ℕ) → Spells mark field hour → length field ≤ 7
+spelled-length field hour (hours plain e) = omega (arith, plain .most)
+spelled-length field hour (tenths word tenth plain digit spelled e) = rw spelled (simp length-append (omega (arith, plain .most)))
+spelled-length field hour (hundredths word tenth hundredth plain digit other spelled e) =
+    rw spelled (simp length-append (omega (arith, plain .most)))
+
+module _ (mark : ℕ) (unlike : isDigit mark ≡ false) where
+  reached-byte :
+      (front : List ℕ) (stage : Stage) (byte : ℕ) → Seen mark byte → Reached mark front stage
+      → Reached mark (front ++ byte ∷ []) (next stage (classOf mark byte))
+  reached-byte front stage byte (a-digit digit) r = rw (class-of-digit mark byte digit) (reached-digit mark front stage byte digit r)
+  reached-byte front stage byte (the-mark same) r = rw (same, class-of-mark mark unlike) (reached-mark mark front stage r)
+  reached-byte front stage byte (another not-digit other) r = rw (after-another mark byte stage not-digit other) tt
+
+  reached :
+      (front : List ℕ) (stage : Stage) (rest : List ℕ) → Reached mark front stage → Reached mark (front ++ rest) (scanned mark stage rest)
+  unfolding scanned
+  reached front stage [] r = rw append-nil r
+  reached front stage (byte ∷ rest) r =
+      rw append-assoc at
+      (reached (front ++ byte ∷ []) (next stage (classOf mark byte)) rest (reached-byte front stage byte (seen mark byte) r))
+
+  -- what has been read at the end of a field is what it spells
+  spells-at : (field : List ℕ) (hour : ℕ) (stage : Stage) → Reached mark field stage → ended stage ≡ right hour → Spells mark field hour
+  spells-at field hour Start r e = absurd (never-right e)
+  spells-at field hour (Whole whole) r e = hours (r .plain) (omega (arith, same-right e, r .worth))
+  spells-at field hour (Marked whole) r e = absurd (never-right e)
+  spells-at field hour (Tenth whole tenth) r e =
+      let f = r .3 in
+      tenths (f .word) (r .0) (f .part .plain) (r .1) (f .spelled) (omega (arith, same-right e, f .part .worth, r .2))
+  spells-at field hour (Hundredth whole tenth hundredth) r e =
+      let f = r .6 in
+      hundredths (f .word) (r .0) (r .1) (f .part .plain) (r .2) (r .3) (f .spelled) (omega (arith, same-right e, f .part .worth, r .4, r .5))
+  spells-at field hour Broken r e = absurd (never-right e)
+
+  spells-what-it-reads : (field : List ℕ) (hour : ℕ) → hourOf mark field ≡ right hour → Spells mark field hour
+  unfolding hourOf
+  spells-what-it-reads field hour e = spells-at field hour (scanned mark Start field) (reached [] Start field refl) e
+
+  -- and a field reads as what it spells
+  reads-what-it-spells : (field : List ℕ) (hour : ℕ) → Spells mark field hour → hourOf mark field ≡ right hour
+  unfolding hourOf scanned
+  reads-what-it-spells field hour (hours plain e) = rw (scan-plain mark field plain, e)
+  reads-what-it-spells field hour (tenths word tenth plain digit spelled e) =
+      rw (spelled, scan-append, scan-plain mark word plain, class-of-mark mark unlike, class-of-digit mark tenth digit, e)
+  reads-what-it-spells field hour (hundredths word tenth hundredth plain digit other spelled e) =
+      rw (spelled, scan-append, scan-plain mark word plain, class-of-mark mark unlike, class-of-digit mark tenth digit, class-of-digit mark hundredth other, e)
+
+  -- a field reads as an hour exactly when it spells it
+  pub reads-exactly : (field : List ℕ) (hour : ℕ) → (hourOf mark field ≡ right hour) ↔ Spells mark field hour
+  reads-exactly field hour = (spells-what-it-reads field hour, reads-what-it-spells field hour)
+
+  -- and it is refused, by 3, exactly when it spells none
+  pub refused-exactly : (field : List ℕ) (number : ℕ) → (hourOf mark field ≡ wrong number) ↔ ((number ≡ 3) × ((hour : ℕ) → Spells mark field hour → ⊥))
+  unfolding hourOf
+  refused-exactly field number = (there, back (hourOf mark field) refl)
+    where
+      there : hourOf mark field ≡ wrong number → (number ≡ 3) × ((hour : ℕ) → Spells mark field hour → ⊥)
+      there e = (ended-by-three (scanned mark Start field) e, λ hour spells. never-right (sym e ∙ reads-what-it-spells field hour spells))
+
+      back : (read : Read ℕ) → hourOf mark field ≡ read → (number ≡ 3) × ((hour : ℕ) → Spells mark field hour → ⊥) → read ≡ wrong number
+      back (wrong other) e none = ap wrong (ended-by-three (scanned mark Start field) e ∙ sym (none .0))
+      back (right hour) e none = absurd (none .1 hour (spells-what-it-reads field hour e))
+
+  -- every hour that is read is at most the last one
+  pub read-at-most : (field : List ℕ) (hour : ℕ) → hourOf mark field ≡ right hour → hour ≤ lastHour
+  read-at-most field hour e = spelled-at-most field hour (spells-what-it-reads field hour e)
+
+  -- a field of more than seven bytes is no hour
+  pub too-long : (field : List ℕ) → 7 < length field → hourOf mark field ≡ wrong 3
+  too-long field long = refused-exactly field 3 .1 (refl, λ hour spells. omega (arith, spelled-length field hour spells))

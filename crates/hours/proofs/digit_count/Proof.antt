@@ -1,0 +1,36 @@
+-- `digit_count` cuts by ten and counts: the digits counted and those of what is left are one more than the number's.
+use Prim.Native.Nat.{_+_, _≤_}
+use mathlib.Core.Path.{_≡_}
+use native.Mathlib.Omega.{arith}
+use borrow.Author.Needs.{needs}
+use lib.ListN.{length}
+use Rattle.ground.specs.Digits.{spelled}
+use Rattle.ground.proofs.Digits.{length-one, length-tenfold}
+use Rattle.hours.proofs.digit_count.Statement.{statement}
+use Rattle.hours.proofs.digit_count.Tie as tie
+
+abbrev Inv-loop : tie.InvT-loop
+Inv-loop number left₀ count₀ left count =
+    (count + length (spelled left) ≡ 1 + length (spelled number)) × (count + left ≤ 1 + number)
+
+abbrev μ-loop : tie.MeasureT-loop
+μ-loop number left₀ count₀ left count = left
+
+loop-holds : tie.Need-loop-holds Inv-loop μ-loop
+loop-holds c = search needs
+
+add-count : tie.Need-add-count Inv-loop μ-loop
+add-count c = search needs
+
+loop-less : tie.Need-loop-less Inv-loop μ-loop
+loop-less c = search needs
+
+loop-again : tie.Need-loop-again Inv-loop μ-loop
+loop-again c = omega (arith, length-tenfold (c .before .loop .left) (c .loop-test .taken))
+
+returns : tie.Need-returns Inv-loop μ-loop
+returns c = omega (arith, length-one (c .before .loop .left) (c .loop-test .left))
+
+pub digit-count-spec : {M : Type 1} → statement M
+digit-count-spec =
+    tie.close (tie.spec Inv-loop μ-loop loop-holds add-count loop-less loop-again returns)

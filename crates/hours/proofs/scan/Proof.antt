@@ -1,0 +1,60 @@
+-- `scan` goes through a field byte after byte: what is left of it, from the stage reached, comes to what the whole field comes to.
+use Prim.Native.Nat.{ℕ, _-_, _≤_}
+use mathlib.Core.Path.{_≡_, refl, sym, ap, _∙_}
+use mathlib.Core.List.{List}
+use lib.ListN.{length, drop}
+use native.Mathlib.Omega.{arith}
+use borrow.Author.Needs.{needs}
+use Rattle.hours.specs.Classes.{comma}
+use Rattle.hours.specs.Reading.{scanned}
+use Rattle.hours.specs.declared.Stage.the-variants.{Start}
+use Rattle.hours.proofs.Scanning.{scan-step, scan-end}
+use Rattle.hours.proofs.scan.Statement.{statement}
+use Rattle.hours.proofs.scan.Tie as tie
+
+abbrev Inv-loop : tie.InvT-loop
+Inv-loop field stage₀ at₀ stage at = scanned comma stage (drop at field) ≡ scanned comma Start field
+
+abbrev μ-loop : tie.MeasureT-loop
+μ-loop field stage₀ at₀ stage at = length field - at
+
+loop-holds : tie.Need-loop-holds Inv-loop μ-loop
+loop-holds c = refl
+
+shared-slice-read-class-of : tie.Need-shared-slice-read-class-of Inv-loop μ-loop
+shared-slice-read-class-of c = search needs
+
+class-of-requires : tie.Need-class-of-requires Inv-loop μ-loop
+class-of-requires c κs = search needs
+
+next-requires : tie.Need-next-requires Inv-loop μ-loop
+next-requires c κs = search needs
+
+add-at : tie.Need-add-at Inv-loop μ-loop
+add-at c = search needs
+
+loop-less : tie.Need-loop-less Inv-loop μ-loop
+loop-less c = search needs
+
+loop-again : tie.Need-loop-again Inv-loop μ-loop
+loop-again c =
+    let s = c .before .before .before .before in
+    rw (c .next .ensures, c .before .class-of .ensures) (sym (scan-step comma (s .loop .stage) _ _ (c .before .before .before .loop-test .taken)) ∙ s .loop .inv)
+
+returns : tie.Need-returns Inv-loop μ-loop
+returns c = sym (scan-end comma _ _ _ (c .loop-test .left)) ∙ c .before .loop .inv
+
+pub scan-spec : {M : Type 1} → statement M
+scan-spec =
+    tie.close
+    (tie.spec
+    Inv-loop
+    μ-loop
+    loop-holds
+    shared-slice-read-class-of
+    class-of-requires
+    next-requires
+    add-at
+    loop-less
+    loop-again
+    returns)

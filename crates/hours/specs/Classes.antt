@@ -1,0 +1,17 @@
+-- "In reading, each byte is a digit, a comma, a tab, a line end or a foreign byte." The decimal mark is a parameter. Assumes nothing.
+use Prim.Native.Nat.{ℕ}
+use mathlib.Core.Bool.{cond}
+use lib.Dec.{eqb}
+use Rattle.ground.specs.Digits.{isDigit, digitOf}
+use Rattle.hours.specs.declared.Class.{Class}
+use Rattle.hours.specs.declared.Class.the-variants.{Digit, Mark, Tab, LineEnd, Foreign}
+
+-- the decimal mark of an hour is the comma
+abbrev pub comma : ℕ
+comma = 44
+
+-- the class of a byte; a digit comes with its worth
+unfoldable pub classOf : ℕ → ℕ → Class
+classOf mark byte =
+    cond (isDigit byte) (Digit (digitOf byte))
+    (cond (eqb byte mark) Mark (cond (eqb byte 9) Tab (cond (eqb byte 10) LineEnd Foreign)))

@@ -1,0 +1,6 @@
+-- What the contracts of this room cite, and what they are proved to mean.
+pub mod Spelling
+pub mod Classes
+pub mod Reading
+pub mod Writing
+pub mod Cases

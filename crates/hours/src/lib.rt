@@ -1,0 +1,226 @@
+// An hour as text: bytes sorted into classes, a field read into hundredths, an hour written to a lent buffer.
+// Any bytes, any numbers and any buffer may come; nothing is asked of the caller. Assumes nothing.
+ghost use mathlib.Core.Path.{_≡_};
+ghost use mathlib.Core.Bool.{cond};
+ghost use Prim.Native.Nat.{_+_, _/_, _≤_};
+ghost use lib.ListN.{length, take};
+ghost use Rattle.ground.specs.Digits.{spelled, lastDigits};
+ghost use Rattle.ground.specs.Buffer.{onto, fitted, lengthOf, bufferAfter};
+ghost use Rattle.hours.specs.Spelling.{inHundredths};
+ghost use Rattle.hours.specs.Classes.{comma, classOf};
+ghost use Rattle.hours.specs.Reading.{nextAtDigit, nextAtMark, next, scanned, ended, hourOf, asHour};
+ghost use Rattle.hours.specs.Writing.{hourText, hourWritten, asLength};
+use ground::LAST_HOUR;
+
+// What a byte is to a reader. A digit comes with its worth.
+pub enum Class {
+    Digit(u8),
+    Mark,
+    Tab,
+    LineEnd,
+    Foreign,
+}
+
+// How far the reading of an hour has come: the whole part, the tenth and the hundredth read so far.
+enum Stage {
+    Start,
+    Whole(u16),
+    Marked(u16),
+    Tenth(u16, u8),
+    Hundredth(u16, u8, u8),
+    Broken,
+}
+
+// What a field reads as: the hour in hundredths, or the refusal's number.
+pub enum HourRead {
+    Hour(u32),
+    Refused(u32),
+}
+
+// What a writing answers: the length of what stands at the buffer's front now, or the refusal's number.
+pub enum Written {
+    Length(usize),
+    Refused(u32),
+}
+
+// The class of a byte, with the comma for decimal mark.
+pub fn class_of(byte: u8) -> Class
+    ensures { λ r. ⌜ r ≡ classOf comma byte ⌝ }
+{
+    match byte {
+        b'0'..=b'9' => Class::Digit(byte - b'0'),
+        b',' => Class::Mark,
+        b'\t' => Class::Tab,
+        b'\n' => Class::LineEnd,
+        _ => Class::Foreign,
+    }
+}
+
+// The stage after a digit: a whole part takes one more while it has fewer than four and does not start with 0.
+fn next_at_digit(stage: Stage, digit: u8) -> Stage
+    ensures { λ r. ⌜ r ≡ nextAtDigit stage digit ⌝ }
+{
+    match stage {
+        Stage::Start => Stage::Whole(digit as u16),
+        Stage::Whole(whole) => {
+            if (1 <= whole) & (whole <= 999) {
+                Stage::Whole(whole * 10 + digit as u16)
+            } else {
+                Stage::Broken
+            }
+        }
+        Stage::Marked(whole) => Stage::Tenth(whole, digit),
+        Stage::Tenth(whole, tenth) => Stage::Hundredth(whole, tenth, digit),
+        Stage::Hundredth(_, _, _) => Stage::Broken,
+        Stage::Broken => Stage::Broken,
+    }
+}
+
+// The stage after the decimal mark, which may follow the whole part alone.
+fn next_at_mark(stage: Stage) -> Stage
+    ensures { λ r. ⌜ r ≡ nextAtMark stage ⌝ }
+{
+    match stage {
+        Stage::Start => Stage::Broken,
+        Stage::Whole(whole) => Stage::Marked(whole),
+        Stage::Marked(_) => Stage::Broken,
+        Stage::Tenth(_, _) => Stage::Broken,
+        Stage::Hundredth(_, _, _) => Stage::Broken,
+        Stage::Broken => Stage::Broken,
+    }
+}
+
+// The stage after a byte of some class. Nothing but digits and the mark stands in an hour.
+fn next(stage: Stage, class: Class) -> Stage
+    ensures { λ r. ⌜ r ≡ next stage class ⌝ }
+{
+    match class {
+        Class::Digit(digit) => next_at_digit(stage, digit),
+        Class::Mark => next_at_mark(stage),
+        Class::Tab => Stage::Broken,
+        Class::LineEnd => Stage::Broken,
+        Class::Foreign => Stage::Broken,
+    }
+}
+
+// The stage at the end of a field.
+fn scan(field: &[u8]) -> Stage
+    ensures { λ r. ⌜ r ≡ scanned comma Stage.Start (now (field .entry)) ⌝ }
+{
+    let mut stage = Stage::Start;
+    let mut at: usize = 0;
+    while at < field.len() {
+        stage = next(stage, class_of(field[at]));
+        at += 1;
+    }
+    stage
+}
+
+// An hour in hundredths, from its whole part, tenth and hundredth.
+fn in_hundredths(whole: u16, tenth: u8, hundredth: u8) -> u32
+    ensures { λ r. ⌜ r ≡ inHundredths whole tenth hundredth ⌝ }
+{
+    whole as u32 * 100 + tenth as u32 * 10 + hundredth as u32
+}
+
+// What has been read when the field ends at this stage: one digit after the mark means tenths.
+fn ended(stage: Stage) -> HourRead
+    ensures { λ r. ⌜ asHour r ≡ ended stage ⌝ }
+{
+    match stage {
+        Stage::Start => HourRead::Refused(3),
+        Stage::Whole(whole) => HourRead::Hour(in_hundredths(whole, 0, 0)),
+        Stage::Marked(_) => HourRead::Refused(3),
+        Stage::Tenth(whole, tenth) => HourRead::Hour(in_hundredths(whole, tenth, 0)),
+        Stage::Hundredth(whole, tenth, hundredth) => {
+            HourRead::Hour(in_hundredths(whole, tenth, hundredth))
+        }
+        Stage::Broken => HourRead::Refused(3),
+    }
+}
+
+// A field of at most seven bytes, the longest hour, in a buffer of the reader's own; what is past its end is 0.
+fn copied(field: &[u8]) -> [u8; 7]
+    requires { ⌜ length (now field) ≤ 7 ⌝ }
+    ensures { λ r. ⌜ take (length (now (field .entry))) r ≡ now (field .entry) ⌝ }
+{
+    let mut copy = [0u8; 7];
+    let mut at: usize = 0;
+    while at < field.len() {
+        copy[at] = field[at];
+        at += 1;
+    }
+    copy
+}
+
+// The hour that a field spells, in hundredths, or refusal 3.
+pub fn read_hour(field: &[u8]) -> HourRead
+    ensures { λ r. ⌜ asHour r ≡ hourOf comma (now (field .entry)) ⌝ }
+{
+    let length = field.len();
+    if 7 < length {
+        return HourRead::Refused(3);
+    }
+    let copy = copied(field);
+    ended(scan(&copy[..length]))
+}
+
+// How many digits a number is spelled with.
+pub fn digit_count(number: u32) -> usize
+    ensures { λ r. ⌜ r ≡ length (spelled number) ⌝ }
+{
+    let mut left = number;
+    let mut count: usize = 1;
+    while 10 <= left {
+        left /= 10;
+        count += 1;
+    }
+    count
+}
+
+// Fills a buffer with the last digits of a number, as many as it has room for.
+pub fn put_digits(number: u32, buffer: &mut [u8])
+    ensures { λ r. ⌜ now (buffer .exit) ≡ lastDigits (length (now (buffer .entry))) number ⌝ }
+{
+    let mut left = number;
+    let mut at = buffer.len();
+    while 0 < at {
+        at -= 1;
+        buffer[at] = b'0' + (left % 10) as u8;
+        left /= 10;
+    }
+}
+
+// A check's number where it is not met, else what the checks after it come to; 0 is no refusal.
+fn check(met: bool, number: u32, rest: u32) -> u32
+    ensures { λ r. ⌜ r ≡ cond met rest number ⌝ }
+{
+    if met { rest } else { number }
+}
+
+// An hour with so many digits before its mark, at the front of a buffer that has room for it.
+fn put_hour(hour: u32, whole: usize, buffer: &mut [u8])
+    requires { ⌜ (whole ≡ length (spelled (hour / 100))) × (whole + 3 ≤ length (now buffer)) ⌝ }
+    ensures { λ r. ⌜ now (buffer .exit) ≡ onto (hourText comma hour) (now (buffer .entry)) ⌝ }
+{
+    let from = whole + 1;
+    let to = whole + 3;
+    put_digits(hour / 100, &mut buffer[..whole]);
+    buffer[whole] = b',';
+    put_digits(hour % 100, &mut buffer[from..to]);
+}
+
+// Writes an hour with two digits after the comma: refusal 4 above the last hour, then 7 where the buffer is too short.
+pub fn write_hour(hour: u32, buffer: &mut [u8]) -> Written
+    ensures { λ r. ⌜ asLength r ≡ lengthOf (fitted (now (buffer .entry)) (hourWritten comma hour)) ⌝ }
+    ensures { λ r. ⌜ now (buffer .exit) ≡ bufferAfter (now (buffer .entry)) (fitted (now (buffer .entry)) (hourWritten comma hour)) ⌝ }
+{
+    let whole = digit_count(hour / 100);
+    let length = whole + 3;
+    let refusal = check(hour <= LAST_HOUR, 4, check(length <= buffer.len(), 7, 0));
+    if refusal != 0 {
+        return Written::Refused(refusal);
+    }
+    put_hour(hour, whole, buffer);
+    Written::Length(length)
+}
