@@ -2,10 +2,10 @@
 use Prim.Native.Nat.{ℕ, zero, suc, _+_, _-_, _≤_, _<_}
 use mathlib.Core.Path.{_≡_, refl, sym, ap, _∙_}
 use mathlib.Core.Bool.{Bool, true, false}
-use mathlib.Core.List.{List, [], _∷_, _++_, append-assoc}
+use mathlib.Core.List.{List, [], _∷_, _++_, append-assoc, append-nil}
 use lib.ListN.{length, take, drop, set, length-append, length-drop}
-use lib.Seq.{take-append-seam, drop-append-seam, drop-cons, drop-drop, set-append-seam}
-use borrow.Rule.Slice.PartMut.{putMid}
+use lib.Seq.{drop-length, take-append-seam, drop-append-seam, drop-cons, drop-drop, set-append-seam, length-take-le}
+use borrow.Rule.Slice.PartMut.{putMid, midOf, mid-len}
 use native.Mathlib.Numerals.{add-one}
 use native.Mathlib.Omega.{arith}
 use Rattle.ground.specs.Refusal.{wrong, right, Read}
@@ -27,12 +27,12 @@ pub length-of-onto : (text buffer : List ℕ) → length text ≤ length buffer 
 unfolding onto
 length-of-onto text buffer room = simp (length-append, length-drop) (omega arith)
 
--- A text is written piece after piece, each to the part of the buffer that follows the pieces before it.
--- The first piece: it came back in the place of the front of its length.
-pub onto-front : (text buffer : List ℕ) (count : ℕ) → count ≡ length text → text ++ drop count buffer ≡ onto text buffer
+-- a text as long as the buffer is all of it
+pub onto-all : (text buffer : List ℕ) → length text ≡ length buffer → onto text buffer ≡ text
 unfolding onto
-onto-front text buffer count same = rw same
+onto-all text buffer same = rw (same, drop-length, append-nil)
 
+-- A text is written piece after piece, each to the part of the buffer that follows the pieces before it.
 -- One byte more.
 pub onto-byte :
     (text buffer : List ℕ) (at byte : ℕ) → at ≡ length text → at < length buffer
@@ -44,11 +44,24 @@ onto-byte text buffer at byte here room =
 
 -- A piece more: the part from a place to another came back with it.
 pub onto-part :
-    (text piece buffer : List ℕ) (at to : ℕ) → at ≡ length text → to - at ≡ length piece → length text ≤ length buffer
+    (text piece buffer : List ℕ) (at to : ℕ) → at ≡ length text → to - at ≡ length piece
     → putMid at (to - at) (onto text buffer) piece ≡ onto (text ++ piece) buffer
 unfolding onto
-onto-part text piece buffer at to here size room =
-    rw (size, here, take-append-seam, drop-append-seam, drop-drop, append-assoc, length-append)
+onto-part text piece buffer at to here size = rw (size, here, take-append-seam, drop-append-seam, drop-drop, append-assoc, length-append)
+
+-- A piece that is as long as the part lent for it, whatever that is: it fills the front, or the part that follows a text.
+module _ (piece : ℕ → List ℕ) (fills : (count : ℕ) → length (piece count) ≡ count) (filled buffer : List ℕ) where
+  pub front-filled :
+      (count : ℕ) → count ≤ length buffer → filled ≡ piece (length (take count buffer)) → filled ++ drop count buffer ≡ onto (piece count) buffer
+  unfolding onto
+  front-filled count room e = rw (e, length-take-le count buffer room, fills count)
+
+  pub part-filled :
+      (text : List ℕ) (at to : ℕ) → at ≡ length text → at ≤ to → to ≤ length buffer → filled ≡ piece (length (midOf at (to - at) (onto text buffer)))
+      → putMid at (to - at) (onto text buffer) filled ≡ onto (text ++ piece (to - at)) buffer
+  part-filled text at to here forward room e =
+      let whole : length (onto text buffer) ≡ length buffer = length-of-onto text buffer (omega arith) in
+      rw (e, mid-len at to (onto text buffer) (omega arith)) (onto-part text (piece (to - at)) buffer at to here (sym (fills (to - at))))
 
 -- A refused writing leaves every byte of the buffer.
 pub refused-stays : (buffer : List ℕ) (text : Read (List ℕ)) (number : ℕ) → lengthOf text ≡ wrong number → bufferAfter buffer text ≡ buffer

@@ -1,7 +1,7 @@
 -- Reading goes by the spelling: a field reads as an hour exactly when it spells it, over any decimal mark that is no digit. Assumes nothing.
 use Prim.Native.Nat.{ℕ, zero, suc, _+_, _*_, _≤_, _<_}
 use mathlib.Core.Path.{_≡_, refl, sym, ap, _∙_, subst}
-use mathlib.Core.Bool.{Bool, true, false, cond}
+use mathlib.Core.Bool.{Bool, true, false, cond, _&&_}
 use mathlib.Core.List.{List, [], _∷_, _++_, append-nil, append-assoc}
 use mathlib.Core.Logic.{_↔_}
 use lib.ListN.{length, length-append}
@@ -11,13 +11,12 @@ use borrow.Author.Tests.{leb-true}
 use Rattle.ground.specs.Refusal.{Read, Or, wrong, right}
 use Rattle.ground.specs.Limits.{lastHour}
 use Rattle.ground.specs.Digits.{isDigit, digitOf, allDigits, valueAfter, valueOf, Plain}
-use Rattle.ground.proofs.Tests.{first-of, second-of}
 use Rattle.ground.proofs.Refusal.{never-right, same-right, same-wrong}
 use Rattle.ground.proofs.Digits.{digit-high, plain-one, plain-more, plain-worth, value-more}
 use Rattle.hours.specs.Spelling.{inHundredths, Spells}
 use Rattle.hours.specs.Spelling.Spells.{hours, tenths, hundredths}
 use Rattle.hours.specs.Classes.{classOf}
-use Rattle.hours.specs.Reading.{takesDigit, nextAtDigit, nextAtMark, next, scanned, ended, hourOf}
+use Rattle.hours.specs.Reading.{longer, nextAtDigit, nextAtMark, next, scanned, ended, hourOf}
 use Rattle.hours.specs.declared.Stage.{Stage}
 use Rattle.hours.specs.declared.Stage.the-variants.{Start, Whole, Marked, Tenth, Hundredth, Broken}
 use Rattle.hours.proofs.Classes.{class-of-digit, class-of-mark, after-another, Seen, a-digit, the-mark, another, seen}
@@ -51,17 +50,24 @@ front-more : {mark : ℕ} {front : List ℕ} {whole : ℕ} {after : List ℕ} (b
 front-more {mark} {after = after} byte f =
     record { word = f .word; part = f .part; spelled = ap (λ (l : List ℕ). l ++ byte ∷ []) (f .spelled) ∙ append-assoc (f .word) (mark ∷ after) (byte ∷ []) }
 
--- a digit more in the whole part
+-- a digit more in the whole part, where it takes one
 part-more :
-    (front : List ℕ) (whole byte : ℕ) → isDigit byte ≡ true → takesDigit whole ≡ true → WholePart front whole
-    → WholePart (front ++ byte ∷ []) (whole * 10 + digitOf byte)
-part-more front whole byte digit takes p =
-    let low : 1 ≤ whole = leb-true _ _ (first-of (leb 1 whole) (leb whole 999) takes) in
-    let high : whole ≤ 999 = leb-true _ _ (second-of (leb 1 whole) (leb whole 999) takes) in
-    record {
-      plain = plain-more front byte (p .plain) (omega (arith, p .worth)) (omega (arith, p .worth)) digit;
-      worth = value-more front byte ∙ ap (λ (w : ℕ). w * 10 + digitOf byte) (p .worth);
-    }
+    (mark : ℕ) (front : List ℕ) (whole byte : ℕ) → isDigit byte ≡ true → WholePart front whole
+    → Reached mark (front ++ byte ∷ []) (longer whole (digitOf byte))
+part-more mark front whole byte digit p = go (leb 1 whole) (leb whole 999) refl refl
+  where
+    go :
+        (some few : Bool) → leb 1 whole ≡ some → leb whole 999 ≡ few
+        → Reached mark (front ++ byte ∷ []) (cond (some && few) (Whole (whole * 10 + digitOf byte)) Broken)
+    go true true low high =
+        let least : 1 ≤ whole = leb-true 1 whole low in
+        let most : whole ≤ 999 = leb-true whole 999 high in
+        record {
+          plain = plain-more front byte (p .plain) (omega (arith, p .worth)) (omega (arith, p .worth)) digit;
+          worth = value-more front byte ∙ ap (λ (w : ℕ). w * 10 + digitOf byte) (p .worth);
+        }
+    go true false low high = tt
+    go false few low high = tt
 
 reached-digit :
     (mark : ℕ) (front : List ℕ) (stage : Stage) (byte : ℕ) → isDigit byte ≡ true → Reached mark front stage
@@ -69,11 +75,7 @@ reached-digit :
 unfolding valueOf valueAfter
 reached-digit mark front Start byte digit r =
     rw r (record { plain = plain-one byte digit; worth = omega arith })
-reached-digit mark front (Whole whole) byte digit r = go (takesDigit whole) refl
-  where
-    go : (takes : Bool) → takesDigit whole ≡ takes → Reached mark (front ++ byte ∷ []) (cond takes (Whole (whole * 10 + digitOf byte)) Broken)
-    go true takes = part-more front whole byte digit takes r
-    go false takes = tt
+reached-digit mark front (Whole whole) byte digit r = part-more mark front whole byte digit r
 reached-digit mark front (Marked whole) byte digit r = (byte, digit, refl, front-more byte r)
 reached-digit mark front (Tenth whole tenth) byte digit r = (r .0, byte, r .1, digit, r .2, refl, front-more byte (r .3))
 reached-digit mark front (Hundredth whole tenth hundredth) byte digit r = tt

@@ -13,14 +13,14 @@ use Rattle.hours.specs.declared.Stage.the-variants.{Start, Whole, Marked
 use Rattle.hours.specs.declared.HourRead.{HourRead}
 use Rattle.hours.specs.declared.HourRead.the-variants.{Hour, Refused}
 
--- a whole part takes one more digit while it has fewer than four, and none after a leading zero
-abbrev pub takesDigit : ℕ → Bool
-takesDigit whole = leb 1 whole && leb whole 999
+-- a whole part with one more digit: it takes one while it has fewer than four, and none after a leading zero
+abbrev pub longer : ℕ → ℕ → Stage
+longer whole digit = cond (leb 1 whole && leb whole 999) (Whole (whole * 10 + digit)) Broken
 
 -- after a digit
 abbrev pub nextAtDigit : Stage → ℕ → Stage
 nextAtDigit Start digit = Whole digit
-nextAtDigit (Whole whole) digit = cond (takesDigit whole) (Whole (whole * 10 + digit)) Broken
+nextAtDigit (Whole whole) digit = longer whole digit
 nextAtDigit (Marked whole) digit = Tenth whole digit
 nextAtDigit (Tenth whole tenth) digit = Hundredth whole tenth digit
 nextAtDigit (Hundredth whole tenth hundredth) digit = Broken

@@ -2,13 +2,16 @@
 // Any bytes, any numbers and any buffer may come; nothing is asked of the caller. Assumes nothing.
 ghost use mathlib.Core.Path.{_≡_};
 ghost use mathlib.Core.Bool.{cond};
-ghost use Prim.Native.Nat.{_+_, _/_, _≤_};
+ghost use mathlib.Core.List.{_∷_, _++_};
+ghost use Prim.Native.Nat.{_-_, _/_, _≤_};
 ghost use lib.ListN.{length, take};
+ghost use lib.Dec.{leb};
+ghost use Rattle.ground.specs.Limits.{lastHour};
 ghost use Rattle.ground.specs.Digits.{spelled, lastDigits};
-ghost use Rattle.ground.specs.Buffer.{onto, fitted, lengthOf, bufferAfter};
+ghost use Rattle.ground.specs.Buffer.{fitted, lengthOf, bufferAfter};
 ghost use Rattle.hours.specs.Spelling.{inHundredths};
 ghost use Rattle.hours.specs.Classes.{comma, classOf};
-ghost use Rattle.hours.specs.Reading.{nextAtDigit, nextAtMark, next, scanned, ended, hourOf, asHour};
+ghost use Rattle.hours.specs.Reading.{longer, nextAtDigit, nextAtMark, next, scanned, ended, hourOf, asHour};
 ghost use Rattle.hours.specs.Writing.{hourText, hourWritten, asLength};
 use ground::LAST_HOUR;
 
@@ -56,19 +59,26 @@ pub fn class_of(byte: u8) -> Class
     }
 }
 
-// The stage after a digit: a whole part takes one more while it has fewer than four and does not start with 0.
+// A whole part with one more digit: it has fewer than four so far, and does not start with 0.
+fn longer(whole: u16, digit: u8) -> Stage
+    ensures { λ r. ⌜ r ≡ longer whole digit ⌝ }
+{
+    if whole < 1 {
+        return Stage::Broken;
+    }
+    if 999 < whole {
+        return Stage::Broken;
+    }
+    Stage::Whole(whole * 10 + digit as u16)
+}
+
+// The stage after a digit.
 fn next_at_digit(stage: Stage, digit: u8) -> Stage
     ensures { λ r. ⌜ r ≡ nextAtDigit stage digit ⌝ }
 {
     match stage {
         Stage::Start => Stage::Whole(digit as u16),
-        Stage::Whole(whole) => {
-            if (1 <= whole) & (whole <= 999) {
-                Stage::Whole(whole * 10 + digit as u16)
-            } else {
-                Stage::Broken
-            }
-        }
+        Stage::Whole(whole) => longer(whole, digit),
         Stage::Marked(whole) => Stage::Tenth(whole, digit),
         Stage::Tenth(whole, tenth) => Stage::Hundredth(whole, tenth, digit),
         Stage::Hundredth(_, _, _) => Stage::Broken,
@@ -198,16 +208,24 @@ fn check(met: bool, number: u32, rest: u32) -> u32
     if met { rest } else { number }
 }
 
-// An hour with so many digits before its mark, at the front of a buffer that has room for it.
-fn put_hour(hour: u32, whole: usize, buffer: &mut [u8])
-    requires { ⌜ (whole ≡ length (spelled (hour / 100))) × (whole + 3 ≤ length (now buffer)) ⌝ }
-    ensures { λ r. ⌜ now (buffer .exit) ≡ onto (hourText comma hour) (now (buffer .entry)) ⌝ }
+// The refusal of an hour whose text has this length, to be written where there is this room; 0 is none.
+fn refusal_of(hour: u32, length: usize, room: usize) -> u32
+    ensures { λ r. ⌜ r ≡ cond (leb hour lastHour) (cond (leb length room) 0 7) 4 ⌝ }
 {
-    let from = whole + 1;
-    let to = whole + 3;
-    put_digits(hour / 100, &mut buffer[..whole]);
-    buffer[whole] = b',';
-    put_digits(hour % 100, &mut buffer[from..to]);
+    check(hour <= LAST_HOUR, 4, check(length <= room, 7, 0))
+}
+
+// Fills a buffer with an hour's text: two digits at its end, the comma before them, and the whole hours in the rest.
+fn put_hour(hour: u32, buffer: &mut [u8])
+    requires { ⌜ 3 ≤ length (now buffer) ⌝ }
+    ensures { λ r. ⌜ now (buffer .exit) ≡ lastDigits (length (now (buffer .entry)) - 3) (hour / 100) ++ comma ∷ lastDigits 2 hour ⌝ }
+{
+    let end = buffer.len();
+    let mark = end - 3;
+    let tenth = mark + 1;
+    put_digits(hour / 100, &mut buffer[..mark]);
+    buffer[mark] = b',';
+    put_digits(hour, &mut buffer[tenth..end]);
 }
 
 // Writes an hour with two digits after the comma: refusal 4 above the last hour, then 7 where the buffer is too short.
@@ -215,12 +233,12 @@ pub fn write_hour(hour: u32, buffer: &mut [u8]) -> Written
     ensures { λ r. ⌜ asLength r ≡ lengthOf (fitted (now (buffer .entry)) (hourWritten comma hour)) ⌝ }
     ensures { λ r. ⌜ now (buffer .exit) ≡ bufferAfter (now (buffer .entry)) (fitted (now (buffer .entry)) (hourWritten comma hour)) ⌝ }
 {
-    let whole = digit_count(hour / 100);
-    let length = whole + 3;
-    let refusal = check(hour <= LAST_HOUR, 4, check(length <= buffer.len(), 7, 0));
+    let room = buffer.len();
+    let length = digit_count(hour / 100) + 3;
+    let refusal = refusal_of(hour, length, room);
     if refusal != 0 {
         return Written::Refused(refusal);
     }
-    put_hour(hour, whole, buffer);
+    put_hour(hour, &mut buffer[..length]);
     Written::Length(length)
 }

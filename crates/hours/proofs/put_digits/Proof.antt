@@ -40,13 +40,13 @@ loop-less c = search needs
 loop-again : tie.Need-loop-again Inv-loop μ-loop
 loop-again c =
     let l = c .before .loop in
-    (simp length-set (omega arith), simp length-set (omega arith), fill-step (l .at) (l .left) (l .buffer) (c .loop-test .taken) (l .inv .0) ∙ l .inv .2)
+    (simp length-set (omega arith), simp length-set (omega arith), fill-step (l .at) (l .left) (l .buffer) (omega arith) (l .inv .0) ∙ l .inv .2)
 
 same-length : tie.Need-same-length Inv-loop μ-loop
 same-length c = search needs
 
 returns : tie.Need-returns Inv-loop μ-loop
-returns c = let l = c .before .loop in sym (fill-end (l .at) (l .left) (l .buffer) (c .loop-test .left)) ∙ l .inv .2
+returns c = let l = c .before .loop in sym (fill-end (l .at) (l .left) (l .buffer) (omega arith)) ∙ l .inv .2
 
 pub put-digits-spec : {M : Type 1} → statement M
 put-digits-spec =

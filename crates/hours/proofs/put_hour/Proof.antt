@@ -1,75 +1,72 @@
--- `put_hour` writes the whole hours, the comma and the two digits one after another, each behind what stands at the front already.
-use Prim.Native.Nat.{ℕ, _+_, _-_, _/_, _%_, _≤_}
-use mathlib.Core.Path.{_≡_, refl, sym, ap, _∙_}
+-- `put_hour` fills its buffer piece after piece: the whole hours, the comma, the two digits.
+use Prim.Native.Nat.{ℕ, _+_, _-_, _/_, _≤_}
+use mathlib.Core.Path.{_≡_, sym, ap, _∙_}
 use mathlib.Core.List.{List, [], _∷_, _++_, append-assoc}
-use lib.ListN.{length, take, drop, set, length-set, length-append, length-drop, length-take}
+use lib.ListN.{length, take, drop, set, length-append}
 use lib.Seq.{length-take-le}
 use native.Mathlib.Omega.{arith}
 use borrow.Author.Needs.{needs}
-use borrow.Rule.Slice.PartMut.{putMid, midOf, mid-len}
-use Rattle.ground.specs.Digits.{lastDigits, spelled}
+use borrow.Rule.Slice.PartMut.{putMid, midOf}
+use Rattle.ground.specs.Digits.{lastDigits}
 use Rattle.ground.specs.Buffer.{onto}
-use Rattle.ground.proofs.Digits.{last-digits-spelled, length-last-digits}
-use Rattle.ground.proofs.Buffer.{onto-front, onto-byte, onto-part, length-of-onto}
+use Rattle.ground.proofs.Digits.{length-last-digits}
+use Rattle.ground.proofs.Buffer.{length-of-onto, onto-all, onto-byte, front-filled, part-filled}
 use Rattle.hours.specs.Classes.{comma}
-use Rattle.hours.specs.Writing.{hourText}
-use Rattle.hours.proofs.Writing.{length-of-text}
 use Rattle.hours.proofs.put_hour.Statement.{statement}
 use Rattle.hours.proofs.put_hour.Tie as tie
 
--- the two digits after the mark
-two-digits : (hour : ℕ) → lastDigits 2 (hour % 100) ≡ lastDigits 2 hour
-unfolding lastDigits
-two-digits hour =
-    let tenth : hour % 100 / 10 % 10 ≡ hour / 10 % 10 = omega arith in
-    let hundredth : hour % 100 % 10 ≡ hour % 10 = omega arith in
-    rw (tenth, hundredth)
+module _ (hour : ℕ) (entry one : List ℕ) (room : 3 ≤ length entry) (first : one ≡ lastDigits (length (take (length entry - 3) entry)) (hour / 100)) where
+  -- the whole hours and the mark
+  abbrev front : List ℕ
+  front = lastDigits (length entry - 3) (hour / 100) ++ comma ∷ []
 
--- the buffer with the whole hours and the mark
-module _ (hour whole : ℕ) (entry one : List ℕ) (counted : whole ≡ length (spelled (hour / 100))) (room : whole + 3 ≤ length entry)
-    (first : one ≡ lastDigits (length (take whole entry)) (hour / 100)) where
-  first-is : one ≡ spelled (hour / 100)
-  first-is =
-      first ∙ ap (λ (count : ℕ). lastDigits count (hour / 100)) (length-take-le whole entry (omega arith) ∙ counted)
-      ∙ last-digits-spelled (hour / 100)
+  front-length : length front ≡ length entry - 3 + 1
+  front-length = simp (length-append, length-last-digits)
 
-  marked : set (one ++ drop whole entry) whole comma ≡ onto (spelled (hour / 100) ++ comma ∷ []) entry
-  marked = rw first-is ((ap (λ (buffer : List ℕ). set buffer whole comma) (onto-front (spelled (hour / 100)) entry whole counted)) ∙ onto-byte (spelled (hour / 100)) entry whole comma counted (omega arith))
+  -- the buffer with them
+  abbrev marked : List ℕ
+  marked = set (one ++ drop (length entry - 3) entry) (length entry - 3) comma
 
-  marked-length : length (set (one ++ drop whole entry) whole comma) ≡ length entry
-  marked-length = ap length marked ∙ length-of-onto _ entry (simp length-append (omega arith))
+  marked-is : marked ≡ onto front entry
+  marked-is =
+      ap (λ (buffer : List ℕ). set buffer (length entry - 3) comma)
+      (front-filled (λ count. lastDigits count (hour / 100)) (λ count. length-last-digits count (hour / 100)) one entry (length entry - 3) (omega arith)
+      first)
+      ∙ onto-byte (lastDigits (length entry - 3) (hour / 100)) entry (length entry - 3) comma (sym (length-last-digits (length entry - 3) (hour / 100)))
+      (omega arith)
+
+  marked-length : length marked ≡ length entry
+  marked-length = ap length marked-is ∙ length-of-onto front entry (omega (arith, front-length))
 
   -- and with the two digits
   module _ (two : List ℕ)
-      (second : two ≡ lastDigits (length (midOf (whole + 1) (whole + 3 - (whole + 1)) (set (one ++ drop whole entry) whole comma))) (hour % 100)) where
-    second-is : two ≡ lastDigits 2 hour
-    second-is =
-        let part : length (midOf (whole + 1) (whole + 3 - (whole + 1)) (set (one ++ drop whole entry) whole comma)) ≡ 2 =
-        mid-len (whole + 1) (whole + 3) (set (one ++ drop whole entry) whole comma) (omega (arith, marked-length)) ∙ omega arith in
-        second ∙ ap (λ (count : ℕ). lastDigits count (hour % 100)) part ∙ two-digits hour
+      (second : two ≡ lastDigits (length (midOf (length entry - 3 + 1) (length entry - (length entry - 3 + 1)) marked)) hour) where
+    filled :
+        putMid (length entry - 3 + 1) (length entry - (length entry - 3 + 1)) marked two
+        ≡ lastDigits (length entry - 3) (hour / 100) ++ comma ∷ lastDigits 2 hour
+    filled =
+        let size : length entry - (length entry - 3 + 1) ≡ 2 = omega arith in
+        rw marked-is
+        (part-filled (λ count. lastDigits count hour) (λ count. length-last-digits count hour) two entry front (length entry - 3 + 1) (length entry)
+        (sym front-length) (omega arith) (omega arith) (rw marked-is at second)
+        ∙ rw size
+        (onto-all (front ++ lastDigits 2 hour) entry (simp (length-append, length-last-digits) (omega arith))
+        ∙ append-assoc (lastDigits (length entry - 3) (hour / 100)) (comma ∷ []) (lastDigits 2 hour)))
 
-    written : putMid (whole + 1) (whole + 3 - (whole + 1)) (set (one ++ drop whole entry) whole comma) two ≡ onto (hourText comma hour) entry
-    unfolding hourText lastDigits
-    written =
-        rw (marked, second-is)
-        (onto-part (spelled (hour / 100) ++ comma ∷ []) (lastDigits 2 hour) entry (whole + 1) (whole + 3) (simp length-append (omega arith)) (omega arith)
-        (simp length-append (omega arith))
-        ∙ ap (λ (text : List ℕ). onto text entry) (append-assoc (spelled (hour / 100)) (comma ∷ []) (lastDigits 2 hour)))
+    filled-length : length (putMid (length entry - 3 + 1) (length entry - (length entry - 3 + 1)) marked two) ≡ length entry
+    filled-length = ap length filled ∙ simp (length-append, length-last-digits) (omega arith)
 
-    written-length : length (putMid (whole + 1) (whole + 3 - (whole + 1)) (set (one ++ drop whole entry) whole comma) two) ≡ length entry
-    written-length = ap length written ∙ length-of-onto (hourText comma hour) entry (omega (arith, length-of-text comma hour))
+sub-mark : tie.Need-sub-mark
+sub-mark c = search needs
 
-add-from : tie.Need-add-from
-add-from c = search needs
-
-add-to : tie.Need-add-to
-add-to c = search needs
+add-tenth : tie.Need-add-tenth
+add-tenth c = search needs
 
 slice-relend-prefix-put-digits : tie.Need-slice-relend-prefix-put-digits
 slice-relend-prefix-put-digits c = search needs
 
 slice-aggregate-put-digits : tie.Need-slice-aggregate-put-digits
-slice-aggregate-put-digits c = let a = c .before .before .args in sym (length-take-le (a .whole) (a .buffer .now) (omega arith))
+slice-aggregate-put-digits c = let b = c .before .before .args .buffer .now in sym (length-take-le (length b - 3) b (omega arith))
 
 put-digits-requires : tie.Need-put-digits-requires
 put-digits-requires c κs = search needs
@@ -86,9 +83,10 @@ part-put-digits-start c = search needs
 part-put-digits-end : tie.Need-part-put-digits-end
 part-put-digits-end c =
     let s = c .before .before .before .before .before in
-    let a = s .args in
-    let l = marked-length (a .hour) (a .whole) (a .buffer .now) (c .before .before .put-digits .last .1 .0) (s .pre .0) (s .pre .1) (c .before .before .put-digits .ensures) in
-    omega arith
+    omega (
+      arith,
+      marked-length (s .args .hour) (s .args .buffer .now) (c .before .before .put-digits .last .1 .0) (s .pre) (c .before .before .put-digits .ensures),
+    )
 
 put-digits-requires-2 : tie.Need-put-digits-requires-2
 put-digits-requires-2 c κs = search needs
@@ -96,25 +94,23 @@ put-digits-requires-2 c κs = search needs
 same-length : tie.Need-same-length
 same-length c =
     let s = c .before .before .before .before .before .before .before .before .before in
-    written-length (s .args .hour) (s .args .whole) (s .args .buffer .now) (c .before .before .before .before .before .before .put-digits .last .1 .0) (s .pre .0) (s .pre .1)
-    (c .before .before .before .before .before .before .put-digits .ensures)
-    (c .before .before .put-digits2 .last .1 .0)
+    filled-length (s .args .hour) (s .args .buffer .now) (c .before .before .before .before .before .before .put-digits .last .1 .0) (s .pre)
+    (c .before .before .before .before .before .before .put-digits .ensures) (c .before .before .put-digits2 .last .1 .0)
     (c .before .before .put-digits2 .ensures)
 
 returns : tie.Need-returns
 returns c =
     let s = c .before .before .before .before .before .before .before .before .before in
-    written (s .args .hour) (s .args .whole) (s .args .buffer .now) (c .before .before .before .before .before .before .put-digits .last .1 .0) (s .pre .0) (s .pre .1)
-    (c .before .before .before .before .before .before .put-digits .ensures)
-    (c .before .before .put-digits2 .last .1 .0)
+    filled (s .args .hour) (s .args .buffer .now) (c .before .before .before .before .before .before .put-digits .last .1 .0) (s .pre)
+    (c .before .before .before .before .before .before .put-digits .ensures) (c .before .before .put-digits2 .last .1 .0)
     (c .before .before .put-digits2 .ensures)
 
 pub put-hour-spec : {M : Type 1} → statement M
 put-hour-spec =
     tie.close
     (tie.spec
-    add-from
-    add-to
+    sub-mark
+    add-tenth
     slice-relend-prefix-put-digits
     slice-aggregate-put-digits
     put-digits-requires
