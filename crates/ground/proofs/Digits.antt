@@ -1,7 +1,7 @@
 -- Laws of decimal digits: what a spelled number is worth, that it is spelled plainly, and how its digits are counted. Assumes nothing.
-use Prim.Native.Nat.{ℕ, zero, suc, _+_, _-_, _*_, _/_, _%_, _^_, _≤_, _<_}
+use Prim.Native.Nat.{ℕ, zero, suc, _+_, _-_, _*_, _/_, _^_, _≤_, _<_}
 use mathlib.Core.Path.{_≡_, refl, sym, ap, _∙_}
-use mathlib.Core.Bool.{Bool, true, false, cond, _&&_}
+use mathlib.Core.Bool.{true}
 use mathlib.Core.List.{List, [], _∷_, _++_, append-nil, append-assoc}
 use lib.ListN.{length, getD, drop, set, length-append, List·getD-append}
 use lib.Seq.{drop-length, drop-cons, lt-length-set, getD-set-same, drop-set-lt}

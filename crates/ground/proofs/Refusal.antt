@@ -1,9 +1,9 @@
 -- Laws of a value or a refusal: how a chain of checks is taken apart. Assumes nothing.
 use Prim.Native.Nat.{ℕ}
-use mathlib.Core.Path.{_≡_, refl, sym, ap}
+use mathlib.Core.Path.{_≡_, refl}
 use mathlib.Core.Bool.{Bool, true, false, cond}
 use native.Mathlib.Omega.{arith}
-use Rattle.ground.specs.Refusal.{Or, wrong, right, Read, check, numberOf, _>>=_, _>>_}
+use Rattle.ground.specs.Refusal.{Or, wrong, right, Read, check, numberOf, _>>_}
 
 -- a value is no refusal
 pub never-right : {E A : Type 0} {e : E} {a : A} → wrong e ≡ right a → ⊥

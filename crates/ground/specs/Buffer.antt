@@ -3,7 +3,7 @@ use Prim.Native.Nat.{ℕ}
 use mathlib.Core.List.{List, _++_}
 use lib.ListN.{length, drop}
 use lib.Dec.{leb}
-use Rattle.ground.specs.Refusal.{Or, wrong, right, Read, check, _>>=_, _>>_}
+use Rattle.ground.specs.Refusal.{wrong, right, Read, check, _>>=_, _>>_}
 
 -- a text at the front of a buffer, and after it the bytes that stood there
 unfoldable pub onto : List ℕ → List ℕ → List ℕ

@@ -8,7 +8,6 @@ use Rattle.ground.specs.Digits.{isDigit, digitOf}
 use Rattle.ground.proofs.Tests.{by-test}
 use Rattle.hours.specs.Classes.{classOf}
 use Rattle.hours.specs.Reading.{next}
-use Rattle.hours.specs.declared.Class.{Class}
 use Rattle.hours.specs.declared.Class.the-variants.{Digit, Mark, Tab, LineEnd, Foreign}
 use Rattle.hours.specs.declared.Stage.{Stage}
 use Rattle.hours.specs.declared.Stage.the-variants.{Broken}

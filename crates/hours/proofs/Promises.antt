@@ -1,11 +1,11 @@
 -- What this room promises, about the very definitions that its contracts cite, at the comma. Each is a line over a law of this folder. Assumes nothing.
 use Prim.Native.Nat.{ℕ, _≤_, _<_}
 use mathlib.Core.Path.{_≡_, refl, sym, ap}
-use mathlib.Core.Bool.{true, _&&_}
+use mathlib.Core.Bool.{true}
 use mathlib.Core.List.{List}
 use mathlib.Core.Logic.{_↔_}
 use lib.ListN.{length, take, drop}
-use Rattle.ground.specs.Refusal.{Read, wrong, right}
+use Rattle.ground.specs.Refusal.{wrong, right}
 use Rattle.ground.specs.Limits.{lastHour}
 use Rattle.ground.specs.Digits.{spelled, lastDigits}
 use Rattle.ground.specs.Buffer.{fitted, lengthOf, bufferAfter}
@@ -19,8 +19,6 @@ use Rattle.hours.specs.Classes.{comma, classOf}
 use Rattle.hours.specs.Reading.{scanned, hourOf, asHour}
 use Rattle.hours.specs.Writing.{hourText, hourWritten, asLength}
 use Rattle.hours.specs.Cases.{markedCases, unmarkedCases, holds, allHold}
-use Rattle.hours.specs.declared.Class.{Class}
-use Rattle.hours.specs.declared.HourRead.{HourRead}
 use Rattle.hours.specs.declared.HourRead.the-variants.{Hour, Refused}
 use Rattle.hours.specs.declared.Written.{Written}
 use Rattle.hours.specs.declared.Written.the-variants as written

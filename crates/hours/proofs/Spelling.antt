@@ -1,6 +1,6 @@
 -- Reading goes by the spelling: a field reads as an hour exactly when it spells it, over any decimal mark that is no digit. Assumes nothing.
-use Prim.Native.Nat.{ℕ, zero, suc, _+_, _*_, _≤_, _<_}
-use mathlib.Core.Path.{_≡_, refl, sym, ap, _∙_, subst}
+use Prim.Native.Nat.{ℕ, _+_, _*_, _≤_, _<_}
+use mathlib.Core.Path.{_≡_, refl, sym, ap, _∙_}
 use mathlib.Core.Bool.{Bool, true, false, cond, _&&_}
 use mathlib.Core.List.{List, [], _∷_, _++_, append-nil, append-assoc}
 use mathlib.Core.Logic.{_↔_}
@@ -8,12 +8,12 @@ use lib.ListN.{length, length-append}
 use lib.Dec.{leb}
 use native.Mathlib.Omega.{arith}
 use borrow.Author.Tests.{leb-true}
-use Rattle.ground.specs.Refusal.{Read, Or, wrong, right}
+use Rattle.ground.specs.Refusal.{Read, wrong, right}
 use Rattle.ground.specs.Limits.{lastHour}
-use Rattle.ground.specs.Digits.{isDigit, digitOf, allDigits, valueAfter, valueOf, Plain}
+use Rattle.ground.specs.Digits.{isDigit, digitOf, valueAfter, valueOf, Plain}
 use Rattle.ground.proofs.Refusal.{never-right, same-right, same-wrong}
 use Rattle.ground.proofs.Digits.{digit-high, plain-one, plain-more, plain-worth, value-more}
-use Rattle.hours.specs.Spelling.{inHundredths, Spells}
+use Rattle.hours.specs.Spelling.{Spells}
 use Rattle.hours.specs.Spelling.Spells.{hours, tenths, hundredths}
 use Rattle.hours.specs.Classes.{classOf}
 use Rattle.hours.specs.Reading.{longer, nextAtDigit, nextAtMark, next, scanned, ended, hourOf}

@@ -1,8 +1,8 @@
 -- Laws of an hour's text and of what is written of it, over any decimal mark. Assumes nothing.
-use Prim.Native.Nat.{ℕ, _+_, _-_, _*_, _/_, _%_, _≤_, _<_}
+use Prim.Native.Nat.{ℕ, _+_, _/_, _≤_, _<_}
 use mathlib.Core.Path.{_≡_, refl, sym, ap, _∙_}
 use mathlib.Core.Bool.{Bool, true, false}
-use mathlib.Core.List.{List, [], _∷_, _++_}
+use mathlib.Core.List.{List}
 use mathlib.Core.Logic.{_↔_}
 use lib.ListN.{length, take, length-append}
 use lib.Dec.{leb}
@@ -10,7 +10,7 @@ use native.Mathlib.Omega.{arith}
 use borrow.Author.Tests.{leb-true, leb-false, le-leb, lt-leb}
 use Rattle.ground.specs.Refusal.{Read, right, wrong, check, _>>=_, _>>_}
 use Rattle.ground.specs.Limits.{lastHour}
-use Rattle.ground.specs.Digits.{isDigit, lastDigit, spelled, valueOf}
+use Rattle.ground.specs.Digits.{isDigit, lastDigit, spelled}
 use Rattle.ground.specs.Buffer.{fitted, lengthOf, bufferAfter}
 use Rattle.ground.proofs.Refusal.{never-right, same-right, same-wrong, after-met, after-unmet, passed-by, unmet-by}
 use Rattle.ground.proofs.Digits.{last-is-digit, spelled-worth, spelled-plain}

@@ -1,6 +1,6 @@
 -- How an hour is read, byte after byte from the left; `Spelling` says what it means to be an hour's text. Assumes nothing.
 use Prim.Native.Nat.{ℕ, _+_, _*_}
-use mathlib.Core.Bool.{Bool, cond, _&&_}
+use mathlib.Core.Bool.{cond, _&&_}
 use mathlib.Core.List.{List, [], _∷_}
 use lib.Dec.{leb}
 use Rattle.ground.specs.Refusal.{Read, wrong, right}

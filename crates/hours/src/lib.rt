@@ -12,7 +12,7 @@ ghost use Rattle.ground.specs.Buffer.{fitted, lengthOf, bufferAfter};
 ghost use Rattle.hours.specs.Spelling.{inHundredths};
 ghost use Rattle.hours.specs.Classes.{comma, classOf};
 ghost use Rattle.hours.specs.Reading.{longer, nextAtDigit, nextAtMark, next, scanned, ended, hourOf, asHour};
-ghost use Rattle.hours.specs.Writing.{hourText, hourWritten, asLength};
+ghost use Rattle.hours.specs.Writing.{hourWritten, asLength};
 use ground::LAST_HOUR;
 
 // What a byte is to a reader. A digit comes with its worth.

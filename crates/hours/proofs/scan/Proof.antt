@@ -1,9 +1,7 @@
 -- `scan` goes through a field byte after byte: what is left of it, from the stage reached, comes to what the whole field comes to.
-use Prim.Native.Nat.{ℕ, _-_, _≤_}
-use mathlib.Core.Path.{_≡_, refl, sym, ap, _∙_}
-use mathlib.Core.List.{List}
+use Prim.Native.Nat.{_-_}
+use mathlib.Core.Path.{_≡_, refl, sym, _∙_}
 use lib.ListN.{length, drop}
-use native.Mathlib.Omega.{arith}
 use borrow.Author.Needs.{needs}
 use Rattle.hours.specs.Classes.{comma}
 use Rattle.hours.specs.Reading.{scanned}
