@@ -5,22 +5,23 @@ use mathlib.Core.Bool.{true}
 use mathlib.Core.List.{List, [], _∷_, _++_, append-nil, append-assoc}
 use lib.ListN.{length, getD, drop, set, length-append, List·getD-append}
 use lib.Seq.{drop-length, drop-cons, lt-length-set, getD-set-same, drop-set-lt}
-use lib.Dec.{leb, ltb}
+use lib.Dec.{ltb}
 use native.Mathlib.Nat.{pow-suc}
 use native.Mathlib.Omega.{arith}
-use borrow.Author.Tests.{ltb-true, ltb-false, leb-true, lt-ltb, le-ltb, le-leb}
+use borrow.Author.Tests.{ltb-true, ltb-false, lt-ltb, le-ltb}
 use Rattle.ground.specs.Digits.{isDigit, digitOf, allDigits, valueAfter, valueOf, Plain, lastDigit, lastDigits, spelledWithin, spelled}
+use Rattle.ground.proofs.Range.{within-from, within-low, within-high}
 use Rattle.ground.proofs.Tests.{by-test, both, first-of, second-of}
 
 -- a digit's byte lies from 48 to 57
 pub digit-from : (byte : ℕ) → 48 ≤ byte → byte ≤ 57 → isDigit byte ≡ true
-digit-from byte low high = both (le-leb _ _ low) (le-leb _ _ high)
+digit-from byte low high = within-from 48 57 byte low high
 
 pub digit-low : (byte : ℕ) → isDigit byte ≡ true → 48 ≤ byte
-digit-low byte digit = leb-true _ _ (first-of (leb 48 byte) (leb byte 57) digit)
+digit-low byte digit = within-low 48 57 byte digit
 
 pub digit-high : (byte : ℕ) → isDigit byte ≡ true → byte ≤ 57
-digit-high byte digit = leb-true _ _ (second-of (leb 48 byte) (leb byte 57) digit)
+digit-high byte digit = within-high 48 57 byte digit
 
 pub last-is-digit : (number : ℕ) → isDigit (lastDigit number) ≡ true
 last-is-digit number = digit-from (lastDigit number) (omega arith) (omega arith)

@@ -1,5 +1,6 @@
 -- The laws of the shared definitions, each file for one file of specs/.
 pub mod Tests
+pub mod Range
 pub mod Refusal
 pub mod Digits
 pub mod Buffer

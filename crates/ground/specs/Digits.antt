@@ -4,11 +4,12 @@ use mathlib.Core.Path.{_≡_}
 use mathlib.Core.Bool.{Bool, true, cond, _&&_}
 use mathlib.Core.List.{List, [], _∷_, _++_}
 use lib.ListN.{length, getD}
-use lib.Dec.{leb, ltb}
+use lib.Dec.{ltb}
+use Rattle.ground.specs.Range.{within}
 
 -- a digit is a byte from '0', 48, to '9', 57
 abbrev pub isDigit : ℕ → Bool
-isDigit byte = leb 48 byte && leb byte 57
+isDigit byte = within 48 57 byte
 
 -- what a digit's byte is worth
 abbrev pub digitOf : ℕ → ℕ

@@ -1,16 +1,16 @@
 -- Reading goes by the spelling: a field reads as an hour exactly when it spells it, over any decimal mark that is no digit. Assumes nothing.
 use Prim.Native.Nat.{ℕ, _+_, _*_, _≤_, _<_}
 use mathlib.Core.Path.{_≡_, refl, sym, ap, _∙_}
-use mathlib.Core.Bool.{Bool, true, false, cond, _&&_}
+use mathlib.Core.Bool.{Bool, true, false, cond}
 use mathlib.Core.List.{List, [], _∷_, _++_, append-nil, append-assoc}
 use mathlib.Core.Logic.{_↔_}
 use lib.ListN.{length, length-append}
-use lib.Dec.{leb}
 use native.Mathlib.Omega.{arith}
-use borrow.Author.Tests.{leb-true}
 use Rattle.ground.specs.Refusal.{Read, wrong, right}
+use Rattle.ground.specs.Range.{within}
 use Rattle.ground.specs.Limits.{lastHour}
 use Rattle.ground.specs.Digits.{isDigit, digitOf, valueAfter, valueOf, Plain}
+use Rattle.ground.proofs.Range.{within-low, within-high}
 use Rattle.ground.proofs.Refusal.{never-right, same-right, same-wrong}
 use Rattle.ground.proofs.Digits.{digit-high, plain-one, plain-more, plain-worth, value-more}
 use Rattle.hours.specs.Spelling.{Spells}
@@ -54,20 +54,19 @@ front-more {mark} {after = after} byte f =
 part-more :
     (mark : ℕ) (front : List ℕ) (whole byte : ℕ) → isDigit byte ≡ true → WholePart front whole
     → Reached mark (front ++ byte ∷ []) (longer whole (digitOf byte))
-part-more mark front whole byte digit p = go (leb 1 whole) (leb whole 999) refl refl
+part-more mark front whole byte digit p = go (within 1 999 whole) refl
   where
     go :
-        (some few : Bool) → leb 1 whole ≡ some → leb whole 999 ≡ few
-        → Reached mark (front ++ byte ∷ []) (cond (some && few) (Whole (whole * 10 + digitOf byte)) Broken)
-    go true true low high =
-        let least : 1 ≤ whole = leb-true 1 whole low in
-        let most : whole ≤ 999 = leb-true whole 999 high in
+        (takes : Bool) → within 1 999 whole ≡ takes
+        → Reached mark (front ++ byte ∷ []) (cond takes (Whole (whole * 10 + digitOf byte)) Broken)
+    go true inside =
+        let least : 1 ≤ whole = within-low 1 999 whole inside in
+        let most : whole ≤ 999 = within-high 1 999 whole inside in
         record {
           plain = plain-more front byte (p .plain) (omega (arith, p .worth)) (omega (arith, p .worth)) digit;
           worth = value-more front byte ∙ ap (λ (w : ℕ). w * 10 + digitOf byte) (p .worth);
         }
-    go true false low high = tt
-    go false few low high = tt
+    go false inside = tt
 
 reached-digit :
     (mark : ℕ) (front : List ℕ) (stage : Stage) (byte : ℕ) → isDigit byte ≡ true → Reached mark front stage

@@ -1,8 +1,8 @@
 -- How an hour is read, byte after byte from the left; `Spelling` says what it means to be an hour's text. Assumes nothing.
 use Prim.Native.Nat.{ℕ, _+_, _*_}
-use mathlib.Core.Bool.{cond, _&&_}
+use mathlib.Core.Bool.{cond}
 use mathlib.Core.List.{List, [], _∷_}
-use lib.Dec.{leb}
+use Rattle.ground.specs.Range.{within}
 use Rattle.ground.specs.Refusal.{Read, wrong, right}
 use Rattle.hours.specs.Spelling.{inHundredths}
 use Rattle.hours.specs.Classes.{classOf}
@@ -15,7 +15,7 @@ use Rattle.hours.specs.declared.HourRead.the-variants.{Hour, Refused}
 
 -- a whole part with one more digit: it takes one while it has fewer than four, and none after a leading zero
 abbrev pub longer : ℕ → ℕ → Stage
-longer whole digit = cond (leb 1 whole && leb whole 999) (Whole (whole * 10 + digit)) Broken
+longer whole digit = cond (within 1 999 whole) (Whole (whole * 10 + digit)) Broken
 
 -- after a digit
 abbrev pub nextAtDigit : Stage → ℕ → Stage

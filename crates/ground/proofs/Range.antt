@@ -1,0 +1,27 @@
+-- Laws of ranges: the test and the two bounds. Assumes nothing.
+use Prim.Native.Nat.{ℕ, _≤_, _<_}
+use mathlib.Core.Path.{_≡_}
+use mathlib.Core.Bool.{true, false}
+use mathlib.Core.Logic.{_⊎_, inl, inr}
+use lib.Dec.{leb}
+use borrow.Author.Tests.{leb-true, leb-false, le-leb}
+use Rattle.ground.specs.Range.{within}
+use Rattle.ground.proofs.Tests.{by-test, never-both, both, first-of, second-of}
+
+module _ (low high number : ℕ) where
+  pub within-from : low ≤ number → number ≤ high → within low high number ≡ true
+  within-from least most = both (le-leb _ _ least) (le-leb _ _ most)
+
+  pub within-low : within low high number ≡ true → low ≤ number
+  within-low inside = leb-true _ _ (first-of (leb low number) (leb number high) inside)
+
+  pub within-high : within low high number ≡ true → number ≤ high
+  within-high inside = leb-true _ _ (second-of (leb low number) (leb number high) inside)
+
+  -- outside a range a number is below it or above it
+  pub outside : within low high number ≡ false → (number < low) ⊎ (high < number)
+  outside out =
+      by-test (leb low number)
+      (λ least.
+      by-test (leb number high) (λ most. absurd (never-both (both least most) out)) (λ above. inr (leb-false _ _ above)))
+      (λ below. inl (leb-false _ _ below))
