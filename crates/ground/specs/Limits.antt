@@ -4,3 +4,11 @@ use Prim.Native.Nat.{ℕ}
 -- "an hour is a whole number of hundredths, 0 to 999,999"
 abbrev pub lastHour : ℕ
 lastHour = 999_999
+
+-- "the number of chambers (1 to 8)"
+abbrev pub mostChambers : ℕ
+mostChambers = 8
+
+-- "the book has taken 512 orders"
+abbrev pub mostOrders : ℕ
+mostOrders = 512

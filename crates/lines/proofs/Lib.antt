@@ -1,0 +1,2 @@
+-- The laws of this room, by what they are about.
+pub mod Lines

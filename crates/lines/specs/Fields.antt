@@ -1,0 +1,37 @@
+-- A line as fields split at tabs, for any number of fields. Assumes nothing.
+use Prim.Native.Nat.{ℕ}
+use mathlib.Core.Bool.{Bool, true, false, cond}
+use mathlib.Core.List.{List, [], _∷_}
+use lib.ListN.{length, getD}
+use lib.Dec.{eqb}
+use Rattle.ground.specs.Refusal.{Read, right, check, _>>_}
+use Rattle.lines.specs.Lines.{lineEnd, before}
+
+-- "`→` stands for one tab (byte 9)"
+abbrev pub tab : ℕ
+tab = 9
+
+-- nothing follows
+abbrev pub isNone : List ℕ → Bool
+isNone [] = true
+isNone (byte ∷ rest) = false
+
+-- "Each line ends with byte 10", and no other byte of it is one
+unfoldable pub isEnded : List ℕ → Bool
+isEnded [] = false
+isEnded (byte ∷ rest) = cond (eqb byte lineEnd) (isNone rest) (isEnded rest)
+
+-- the fields of a line, split at tabs, up to its end
+unfoldable pub fieldsOf : List ℕ → List (List ℕ)
+fieldsOf [] = [] ∷ []
+fieldsOf (byte ∷ rest) = cond (eqb byte tab) ([] ∷ fieldsOf rest) (cond (eqb byte lineEnd) ([] ∷ []) (before byte (fieldsOf rest)))
+
+-- one of the fields, from 0 on; the empty one where there are fewer
+abbrev pub field : ℕ → List ℕ → List ℕ
+field place line = getD (fieldsOf line) place []
+
+-- 1: "line not ended, not three fields", for any count of fields
+unfoldable pub shapeOf : ℕ → List ℕ → Read (Unit {0})
+shapeOf count line = do
+  check (isEnded line) 1
+  check (eqb (length (fieldsOf line)) count) 1

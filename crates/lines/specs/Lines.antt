@@ -1,0 +1,32 @@
+-- "Each line ends with byte 10. Bytes after the last byte 10, if there are any, count as a line": a text as its lines, and the line at a place. Assumes nothing.
+use Prim.Native.Nat.{ℕ, suc, _+_}
+use mathlib.Core.Bool.{cond}
+use mathlib.Core.List.{List, [], _∷_}
+use lib.ListN.{take, drop}
+use lib.Dec.{eqb}
+
+-- the byte that ends a line
+abbrev pub lineEnd : ℕ
+lineEnd = 10
+
+-- a byte at the front of the first of several texts
+abbrev pub before : ℕ → List (List ℕ) → List (List ℕ)
+before byte [] = (byte ∷ []) ∷ []
+before byte (text ∷ texts) = (byte ∷ text) ∷ texts
+
+-- the lines of a text, each with its end where it has one
+unfoldable pub linesOf : List ℕ → List (List ℕ)
+linesOf [] = []
+linesOf (byte ∷ rest) = cond (eqb byte lineEnd) ((byte ∷ []) ∷ linesOf rest) (before byte (linesOf rest))
+
+-- how many bytes the first line of a text has; none where the text is empty
+unfoldable pub lineLength : List ℕ → ℕ
+lineLength [] = 0
+lineLength (byte ∷ rest) = cond (eqb byte lineEnd) 1 (suc (lineLength rest))
+
+-- "It goes on from the place it holds; at or past the end of the text none is left": the line from a place on, and the place past it
+unfoldable pub lineAt : List ℕ → ℕ → List ℕ
+lineAt text at = take (lineLength (drop at text)) (drop at text)
+
+unfoldable pub pastLine : List ℕ → ℕ → ℕ
+pastLine text at = at + lineLength (drop at text)

@@ -1,0 +1,30 @@
+-- How a plan line is written "from its three numbers (order line 2 to 513, chamber 1 to 8, start)". Assumes nothing.
+use Prim.Native.Nat.{ℕ, suc}
+use mathlib.Core.List.{List, [], _∷_, _++_}
+use Rattle.ground.specs.Refusal.{Read, right, check, _>>=_, _>>_}
+use Rattle.ground.specs.Range.{within}
+use Rattle.ground.specs.Limits.{mostChambers, mostOrders}
+use Rattle.ground.specs.Digits.{spelled}
+use Rattle.hours.specs.Classes.{comma}
+use Rattle.hours.specs.Writing.{hourText, hourWritten}
+use Rattle.lines.specs.Lines.{lineEnd}
+use Rattle.lines.specs.Fields.{tab}
+
+-- "the first line is 1, so orders start at 2": the lines that an order can stand on
+abbrev pub firstOrderLine : ℕ
+firstOrderLine = 2
+
+abbrev pub lastOrderLine : ℕ
+lastOrderLine = suc mostOrders
+
+-- a plan line's text: order line, chamber and start, with tabs between and the line end behind
+unfoldable pub planText : ℕ → ℕ → ℕ → List ℕ
+planText order chamber start = spelled order ++ tab ∷ spelled chamber ++ tab ∷ hourText comma start ++ lineEnd ∷ []
+
+-- the line to be written: 4 for "the order line or chamber of a plan line to be written", and for a start above the last hour
+unfoldable pub planWritten : ℕ → ℕ → ℕ → Read (List ℕ)
+planWritten order chamber start = do
+  check (within firstOrderLine lastOrderLine order) 4
+  check (within 1 mostChambers chamber) 4
+  hour ← hourWritten comma start
+  right (planText order chamber start)
