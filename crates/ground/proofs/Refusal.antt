@@ -1,6 +1,7 @@
 -- Laws of a value or a refusal: how a chain of checks is taken apart. Assumes nothing.
 use Prim.Native.Nat.{ℕ}
-use mathlib.Core.Path.{_≡_, refl}
+use mathlib.Core.Path.{_≡_, refl, sym, ap, _∙_}
+use mathlib.Core.Logic.{_↔_}
 use mathlib.Core.Bool.{Bool, true, false, cond}
 use native.Mathlib.Omega.{arith}
 use Rattle.ground.specs.Refusal.{Or, wrong, right, Read, check, numberOf, _>>_}
@@ -50,3 +51,14 @@ pub unmet-by :
     {A : Type 0} (met : Bool) (number : ℕ) (rest : Read A) → (rest ≡ wrong number → ⊥) → (check met number >> rest) ≡ wrong number → met ≡ false
 unmet-by true number rest later e = absurd (later e)
 unmet-by false number rest later e = refl
+
+-- A reading that gives a value exactly when the value is meant, and has one refusal, is refused by that exactly when none is meant.
+pub refused-otherwise :
+    {A : Type 0} (read : Read A) (number : ℕ) (Meant : A → Type 0) → ((value : A) → (read ≡ right value) ↔ Meant value)
+    → ((given : ℕ) → read ≡ wrong given → given ≡ number) → (given : ℕ)
+    → (read ≡ wrong given) ↔ ((given ≡ number) × ((value : A) → Meant value → ⊥))
+refused-otherwise (wrong other) number Meant means only given = (
+  λ e. (only given e, λ value meant. never-right (means value .1 meant)),
+  λ none. ap wrong (only other refl ∙ sym (none .0)),
+)
+refused-otherwise (right value) number Meant means only given = (λ e. absurd (never-right (sym e)), λ none. absurd (none .1 value (means value .0 refl)))

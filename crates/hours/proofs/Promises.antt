@@ -7,7 +7,7 @@ use mathlib.Core.Logic.{_↔_}
 use lib.ListN.{length, take, drop}
 use Rattle.ground.specs.Refusal.{wrong, right}
 use Rattle.ground.specs.Limits.{lastHour}
-use Rattle.ground.specs.Digits.{spelled, lastDigits}
+use Rattle.ground.specs.Digits.{Plain, valueOf, spelled, lastDigits}
 use Rattle.ground.specs.Buffer.{fitted, lengthOf, bufferAfter}
 use Rattle.ground.specs.Text.{bytes}
 use Rattle.ground.specs.Outcome.{Injective, Single}
@@ -16,10 +16,11 @@ use Rattle.ground.proofs.Refusal.{never-right, same-right, same-wrong}
 use Rattle.ground.proofs.Outcome.{single-answer, single-value, single-writing}
 use Rattle.hours.specs.Spelling.{Spells}
 use Rattle.hours.specs.Classes.{comma, classOf}
-use Rattle.hours.specs.Reading.{scanned, hourOf, asHour}
+use Rattle.hours.specs.Reading.{scanned, hourOf, asHour, plainOf, asPlain}
 use Rattle.hours.specs.Writing.{hourText, hourWritten, asLength}
 use Rattle.hours.specs.Cases.{markedCases, unmarkedCases, holds, allHold}
 use Rattle.hours.specs.declared.HourRead.the-variants.{Hour, Refused}
+use Rattle.hours.specs.declared.PlainRead.the-variants as plain
 use Rattle.hours.specs.declared.Written.{Written}
 use Rattle.hours.specs.declared.Written.the-variants as written
 use Rattle.hours.proofs.Spelling as spelling
@@ -36,6 +37,14 @@ read-at-most = spelling.read-at-most comma refl
 -- 1b: refusal 3, and no other, exactly when the field spells no hour
 pub refused-by-three : (field : List ℕ) (number : ℕ) → (hourOf comma field ≡ wrong number) ↔ ((number ≡ 3) × ((hour : ℕ) → Spells comma field hour → ⊥))
 refused-by-three = spelling.refused-exactly comma refl
+
+-- a field reads as a plain number exactly when it is one, and as what it is worth
+pub plain-exactly : (field : List ℕ) (number : ℕ) → (plainOf field ≡ right number) ↔ (Plain field × (number ≡ valueOf field))
+plain-exactly = spelling.plain-exactly
+
+-- 1b: refusal 2, and no other, exactly when it is none
+pub refused-by-two : (field : List ℕ) (number : ℕ) → (plainOf field ≡ wrong number) ↔ ((number ≡ 2) × (Plain field → ⊥))
+refused-by-two = spelling.plain-refused
 
 -- 1b: refusal 4 exactly when the hour is above 999,999, whatever the room
 pub refused-by-four : (hour : ℕ) (buffer : List ℕ) → (lengthOf (fitted buffer (hourWritten comma hour)) ≡ wrong 4) ↔ (lastHour < hour)
@@ -83,6 +92,12 @@ hour-told (Hour one) (Refused other) same = absurd (never-right (sym same))
 hour-told (Refused one) (Hour other) same = absurd (never-right same)
 hour-told (Refused one) (Refused other) same = ap Refused (same-wrong same)
 
+plain-told : Injective asPlain
+plain-told (plain.Number one) (plain.Number other) same = ap plain.Number (same-right same)
+plain-told (plain.Number one) (plain.Refused other) same = absurd (never-right (sym same))
+plain-told (plain.Refused one) (plain.Number other) same = absurd (never-right same)
+plain-told (plain.Refused one) (plain.Refused other) same = ap plain.Refused (same-wrong same)
+
 length-told : Injective asLength
 length-told (written.Length one) (written.Length other) same = ap written.Length (same-right same)
 length-told (written.Length one) (written.Refused other) same = absurd (never-right (sym same))
@@ -95,6 +110,9 @@ class-of-single byte = single-value (classOf comma byte)
 
 pub read-hour-single : (field : List ℕ) → Single (λ answer. asHour answer ≡ hourOf comma field)
 read-hour-single field = single-answer asHour hour-told (hourOf comma field)
+
+pub read-plain-single : (field : List ℕ) → Single (λ answer. asPlain answer ≡ plainOf field)
+read-plain-single field = single-answer asPlain plain-told (plainOf field)
 
 pub digit-count-single : (number : ℕ) → Single (λ count. count ≡ length (spelled number))
 digit-count-single number = single-value (length (spelled number))

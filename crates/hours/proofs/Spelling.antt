@@ -6,17 +6,17 @@ use mathlib.Core.List.{List, [], _∷_, _++_, append-nil, append-assoc}
 use mathlib.Core.Logic.{_↔_}
 use lib.ListN.{length, length-append}
 use native.Mathlib.Omega.{arith}
-use Rattle.ground.specs.Refusal.{Read, wrong, right}
+use Rattle.ground.specs.Refusal.{wrong, right}
 use Rattle.ground.specs.Range.{within}
 use Rattle.ground.specs.Limits.{lastHour}
 use Rattle.ground.specs.Digits.{isDigit, digitOf, valueAfter, valueOf, Plain}
 use Rattle.ground.proofs.Range.{within-low, within-high}
-use Rattle.ground.proofs.Refusal.{never-right, same-right, same-wrong}
+use Rattle.ground.proofs.Refusal.{never-right, same-right, same-wrong, refused-otherwise}
 use Rattle.ground.proofs.Digits.{digit-high, plain-one, plain-more, plain-worth, value-more}
 use Rattle.hours.specs.Spelling.{Spells}
 use Rattle.hours.specs.Spelling.Spells.{hours, tenths, hundredths}
-use Rattle.hours.specs.Classes.{classOf}
-use Rattle.hours.specs.Reading.{longer, nextAtDigit, nextAtMark, next, scanned, ended, hourOf}
+use Rattle.hours.specs.Classes.{comma, classOf}
+use Rattle.hours.specs.Reading.{longer, nextAtDigit, nextAtMark, next, scanned, ended, hourOf, endedPlain, plainOf}
 use Rattle.hours.specs.declared.Stage.{Stage}
 use Rattle.hours.specs.declared.Stage.the-variants.{Start, Whole, Marked, Tenth, Hundredth, Broken}
 use Rattle.hours.proofs.Classes.{class-of-digit, class-of-mark, after-another, Seen, a-digit, the-mark, another, seen}
@@ -159,14 +159,8 @@ module _ (mark : ℕ) (unlike : isDigit mark ≡ false) where
   -- and it is refused, by 3, exactly when it spells none
   pub refused-exactly : (field : List ℕ) (number : ℕ) → (hourOf mark field ≡ wrong number) ↔ ((number ≡ 3) × ((hour : ℕ) → Spells mark field hour → ⊥))
   unfolding hourOf
-  refused-exactly field number = (there, back (hourOf mark field) refl)
-    where
-      there : hourOf mark field ≡ wrong number → (number ≡ 3) × ((hour : ℕ) → Spells mark field hour → ⊥)
-      there e = (ended-by-three (scanned mark Start field) e, λ hour spells. never-right (sym e ∙ reads-what-it-spells field hour spells))
-
-      back : (read : Read ℕ) → hourOf mark field ≡ read → (number ≡ 3) × ((hour : ℕ) → Spells mark field hour → ⊥) → read ≡ wrong number
-      back (wrong other) e none = ap wrong (ended-by-three (scanned mark Start field) e ∙ sym (none .0))
-      back (right hour) e none = absurd (none .1 hour (spells-what-it-reads field hour e))
+  refused-exactly field =
+      refused-otherwise (hourOf mark field) 3 (Spells mark field) (reads-exactly field) (λ given e. ended-by-three (scanned mark Start field) e)
 
   -- every hour that is read is at most the last one
   pub read-at-most : (field : List ℕ) (hour : ℕ) → hourOf mark field ≡ right hour → hour ≤ lastHour
@@ -175,3 +169,39 @@ module _ (mark : ℕ) (unlike : isDigit mark ≡ false) where
   -- a field of more than seven bytes is no hour
   pub too-long : (field : List ℕ) → 7 < length field → hourOf mark field ≡ wrong 3
   too-long field long = refused-exactly field 3 .1 (refl, λ hour spells. omega (arith, spelled-length field hour spells))
+
+-- A field is a whole part with nothing behind it exactly when it is a plain number.
+pub plain-exactly : (field : List ℕ) (number : ℕ) → (plainOf field ≡ right number) ↔ (Plain field × (number ≡ valueOf field))
+unfolding plainOf
+plain-exactly field number = (there (scanned comma Start field) (reached comma refl [] Start field refl), back)
+  where
+    there : (stage : Stage) → Reached comma field stage → endedPlain stage ≡ right number → Plain field × (number ≡ valueOf field)
+    there Start r e = absurd (never-right e)
+    there (Whole whole) r e = (r .plain, sym (same-right e) ∙ sym (r .worth))
+    there (Marked whole) r e = absurd (never-right e)
+    there (Tenth whole tenth) r e = absurd (never-right e)
+    there (Hundredth whole tenth hundredth) r e = absurd (never-right e)
+    there Broken r e = absurd (never-right e)
+
+    back : Plain field × (number ≡ valueOf field) → endedPlain (scanned comma Start field) ≡ right number
+    back facts = rw (scan-plain comma field (facts .0), facts .1)
+
+-- the only refusal of such a reading is 2
+plain-ended-by-two : (stage : Stage) {number : ℕ} → endedPlain stage ≡ wrong number → number ≡ 2
+plain-ended-by-two Start e = sym (same-wrong e)
+plain-ended-by-two (Whole whole) e = absurd (never-right (sym e))
+plain-ended-by-two (Marked whole) e = sym (same-wrong e)
+plain-ended-by-two (Tenth whole tenth) e = sym (same-wrong e)
+plain-ended-by-two (Hundredth whole tenth hundredth) e = sym (same-wrong e)
+plain-ended-by-two Broken e = sym (same-wrong e)
+
+-- and it is refused, by 2, exactly when it is none
+pub plain-refused : (field : List ℕ) (number : ℕ) → (plainOf field ≡ wrong number) ↔ ((number ≡ 2) × (Plain field → ⊥))
+unfolding plainOf
+plain-refused field number =
+    let exactly =
+    refused-otherwise (plainOf field) 2 (λ worth. Plain field × (worth ≡ valueOf field)) (plain-exactly field)
+    (λ given e. plain-ended-by-two (scanned comma Start field) e) number in (
+      λ refused. (exactly .0 refused .0, λ plain. exactly .0 refused .1 (valueOf field) (plain, refl)),
+      λ none. exactly .1 (none .0, λ worth meant. none .1 (meant .0)),
+    )

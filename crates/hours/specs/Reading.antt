@@ -5,13 +5,16 @@ use mathlib.Core.List.{List, [], _∷_}
 use Rattle.ground.specs.Range.{within}
 use Rattle.ground.specs.Refusal.{Read, wrong, right}
 use Rattle.hours.specs.Spelling.{inHundredths}
-use Rattle.hours.specs.Classes.{classOf}
+use Rattle.hours.specs.Classes.{comma, classOf}
 use Rattle.hours.specs.declared.Class.{Class}
 use Rattle.hours.specs.declared.Class.the-variants.{Digit, Mark, Tab, LineEnd, Foreign}
 use Rattle.hours.specs.declared.Stage.{Stage}
 use Rattle.hours.specs.declared.Stage.the-variants.{Start, Whole, Marked, Tenth, Hundredth, Broken}
 use Rattle.hours.specs.declared.HourRead.{HourRead}
 use Rattle.hours.specs.declared.HourRead.the-variants.{Hour, Refused}
+use Rattle.hours.specs.declared.PlainRead.{PlainRead}
+use Rattle.hours.specs.declared.PlainRead.the-variants.{Number}
+use Rattle.hours.specs.declared.PlainRead.the-variants as plain
 
 -- a whole part with one more digit: it takes one while it has fewer than four, and none after a leading zero
 abbrev pub longer : ℕ → ℕ → Stage
@@ -65,3 +68,21 @@ hourOf mark field = ended (scanned mark Start field)
 abbrev pub asHour : HourRead → Read ℕ
 asHour (Hour hour) = right hour
 asHour (Refused number) = wrong number
+
+-- what has been read as a plain number where the field ends: the whole part of an hour is spelled as one; 2 for anything else
+abbrev pub endedPlain : Stage → Read ℕ
+endedPlain Start = wrong 2
+endedPlain (Whole whole) = right whole
+endedPlain (Marked whole) = wrong 2
+endedPlain (Tenth whole tenth) = wrong 2
+endedPlain (Hundredth whole tenth hundredth) = wrong 2
+endedPlain Broken = wrong 2
+
+-- the plain number that a field spells, or refusal 2
+unfoldable pub plainOf : List ℕ → Read ℕ
+plainOf field = endedPlain (scanned comma Start field)
+
+-- the paper's number and value for each case of the answer
+abbrev pub asPlain : PlainRead → Read ℕ
+asPlain (Number number) = right number
+asPlain (plain.Refused number) = wrong number

@@ -11,7 +11,7 @@ ghost use Rattle.ground.specs.Digits.{spelled, lastDigits};
 ghost use Rattle.ground.specs.Buffer.{fitted, lengthOf, bufferAfter};
 ghost use Rattle.hours.specs.Spelling.{inHundredths};
 ghost use Rattle.hours.specs.Classes.{comma, classOf};
-ghost use Rattle.hours.specs.Reading.{longer, nextAtDigit, nextAtMark, next, scanned, ended, hourOf, asHour};
+ghost use Rattle.hours.specs.Reading.{longer, nextAtDigit, nextAtMark, next, scanned, ended, hourOf, asHour, endedPlain, plainOf, asPlain};
 ghost use Rattle.hours.specs.Writing.{hourWritten, asLength};
 use ground::LAST_HOUR;
 
@@ -37,6 +37,12 @@ enum Stage {
 // What a field reads as: the hour in hundredths, or the refusal's number.
 pub enum HourRead {
     Hour(u32),
+    Refused(u32),
+}
+
+// What a field reads as where a plain number is wanted: the number, or the refusal's number.
+pub enum PlainRead {
+    Number(u32),
     Refused(u32),
 }
 
@@ -173,6 +179,27 @@ pub fn read_hour(field: &[u8]) -> HourRead
     }
     let copy = copied(field);
     ended(scan(&copy[..length]))
+}
+
+// What has been read as a plain number when the field ends at this stage: a whole part with nothing behind it.
+fn ended_plain(stage: Stage) -> PlainRead
+    ensures { λ r. ⌜ asPlain r ≡ endedPlain stage ⌝ }
+{
+    match stage {
+        Stage::Start => PlainRead::Refused(2),
+        Stage::Whole(whole) => PlainRead::Number(whole as u32),
+        Stage::Marked(_) => PlainRead::Refused(2),
+        Stage::Tenth(_, _) => PlainRead::Refused(2),
+        Stage::Hundredth(_, _, _) => PlainRead::Refused(2),
+        Stage::Broken => PlainRead::Refused(2),
+    }
+}
+
+// The number that a field spells as a plain number, or refusal 2.
+pub fn read_plain(field: &[u8]) -> PlainRead
+    ensures { λ r. ⌜ asPlain r ≡ plainOf (now (field .entry)) ⌝ }
+{
+    ended_plain(scan(field))
 }
 
 // How many digits a number is spelled with.

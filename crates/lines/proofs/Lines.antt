@@ -1,15 +1,15 @@
 -- Laws of the lines of a text. Assumes nothing.
-use Prim.Native.Nat.{ℕ, suc, _+_, _-_, _≤_, _<_}
-use mathlib.Core.Path.{_≡_, refl, sym, ap, _∙_}
+use Prim.Native.Nat.{ℕ, _+_, _-_, _≤_, _<_}
+use mathlib.Core.Path.{_≡_}
 use mathlib.Core.Bool.{Bool, true, false, cond}
-use mathlib.Core.List.{List, [], _∷_, _++_}
-use lib.ListN.{length, getD, take, drop, length-drop, drop-of-length-le}
-use lib.Seq.{drop-cons, drop-drop}
+use mathlib.Core.List.{List, [], _∷_}
+use lib.ListN.{length, getD, take, drop, length-drop}
+use lib.Seq.{drop-cons}
 use lib.Dec.{eqb}
 use native.Mathlib.Numerals.{add-one}
 use native.Mathlib.Omega.{arith}
 use borrow.Author.Tests.{eq-eqb, ne-eqb}
-use Rattle.lines.specs.Lines.{lineEnd, before, linesOf, lineLength, lineAt, pastLine}
+use Rattle.lines.specs.Lines.{lineEnd, lineLength, lineAt, pastLine}
 
 -- a line is no longer than its text
 at-most : (ended : Bool) (more most : ℕ) → 1 ≤ most → more ≤ most → cond ended 1 more ≤ most

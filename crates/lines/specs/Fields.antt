@@ -4,7 +4,7 @@ use mathlib.Core.Bool.{Bool, true, false, cond}
 use mathlib.Core.List.{List, [], _∷_}
 use lib.ListN.{length, getD}
 use lib.Dec.{eqb}
-use Rattle.ground.specs.Refusal.{Read, right, check, _>>_}
+use Rattle.ground.specs.Refusal.{Read, check, _>>_}
 use Rattle.lines.specs.Lines.{lineEnd, before}
 
 -- "`→` stands for one tab (byte 9)"
