@@ -1,2 +1,3 @@
 -- The laws of this room, by what they are about.
 pub mod Lines
+pub mod Splitting
