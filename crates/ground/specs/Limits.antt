@@ -9,6 +9,10 @@ lastHour = 999_999
 abbrev pub mostChambers : ℕ
 mostChambers = 8
 
+-- "the run in hours (1 to 9,999 hundredths)"
+abbrev pub longestRun : ℕ
+longestRun = 9_999
+
 -- "the book has taken 512 orders"
 abbrev pub mostOrders : ℕ
 mostOrders = 512

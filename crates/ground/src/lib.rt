@@ -7,5 +7,8 @@ pub const LAST_HOUR: u32 = 999_999;
 // How many chambers there can be.
 pub const MOST_CHAMBERS: u32 = 8;
 
+// The longest run, in hundredths.
+pub const LONGEST_RUN: u32 = 9_999;
+
 // How many orders a book takes.
 pub const MOST_ORDERS: u32 = 512;

@@ -1,5 +1,5 @@
 -- Laws of the fields of a line: how they are found byte after byte, and one behind the other. Assumes nothing.
-use Prim.Native.Nat.{ℕ, zero, suc, _+_, _≤_, _<_}
+use Prim.Native.Nat.{ℕ, zero, suc, _+_, _-_, _≤_, _<_}
 use mathlib.Core.Path.{_≡_, refl, sym, ap, _∙_}
 use mathlib.Core.Bool.{Bool, true, false, cond}
 use mathlib.Core.List.{List, [], _∷_}
@@ -220,3 +220,7 @@ tabs-most Mark = omega arith
 tabs-most Tab = omega arith
 tabs-most LineEnd = omega arith
 tabs-most Foreign = omega arith
+
+pub field-next : (line : List ℕ) (place : ℕ) → (place ≡ 0 → ⊥) → field (place - 1) (afterField line) ≡ field place line
+field-next line zero some = absurd (some refl)
+field-next line (suc place) some = let e : suc place - 1 ≡ place = omega arith in rw e (sym (field-later line place))

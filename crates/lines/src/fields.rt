@@ -106,3 +106,13 @@ pub fn after_field<'a>(line: &'a [u8]) -> &'a [u8]
     let next = end + 1;
     &line[next..]
 }
+
+// One of a line's fields, from 0 on; the empty one where there are fewer.
+pub fn field_at<'a>(line: &'a [u8], place: usize) -> &'a [u8]
+    ensures { λ r. ⌜ now r ≡ field place (now (line .entry)) ⌝ }
+{
+    if place == 0 {
+        return first_field(line);
+    }
+    field_at(after_field(line), place - 1)
+}

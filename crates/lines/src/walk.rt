@@ -27,3 +27,38 @@ pub fn line_at<'a>(text: &'a [u8], at: usize) -> &'a [u8]
     }
     &text[..0]
 }
+
+// A walk through a text: the text, and the place reached. It goes on from whatever place it holds.
+pub struct Walk<'a> {
+    pub text: &'a [u8],
+    pub at: usize,
+}
+
+// A line that was handed out, empty where none is left, and the walk moved past it.
+pub struct Handed<'a> {
+    pub line: &'a [u8],
+    pub walk: Walk<'a>,
+}
+
+// A walk from the top of a text.
+pub fn start<'a>(text: &'a [u8]) -> Walk<'a>
+    ensures { λ r. ⌜ (r .text ≡ text .entry) × (r .at ≡ 0) ⌝ }
+{
+    Walk { text, at: 0 }
+}
+
+// The next line, and the walk moved past it.
+pub fn next<'a>(walk: Walk<'a>) -> Handed<'a>
+    ensures { λ r. ⌜ (now (r .line) ≡ lineAt (now (walk .entry .text)) (walk .entry .at))
+        × (r .walk .text ≡ walk .entry .text) × (r .walk .at ≡ pastLine (now (walk .entry .text)) (walk .entry .at)) ⌝ }
+{
+    let line = line_at(walk.text, walk.at);
+    let at = line_end(walk.text, walk.at);
+    Handed {
+        line,
+        walk: Walk {
+            text: walk.text,
+            at,
+        },
+    }
+}

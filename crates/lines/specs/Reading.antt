@@ -1,0 +1,71 @@
+-- How the lines of lists and plans are read: "A line: 1 first, then its fields from the left, each 2 or 3 and then 4." Assumes nothing.
+use Prim.Native.Nat.{ℕ}
+use mathlib.Core.Bool.{Bool, true, false, _&&_}
+use mathlib.Core.List.{List, [], _∷_}
+use lib.Dec.{eqb}
+use Rattle.ground.specs.Refusal.{Read, wrong, right, check, _>>=_, _>>_}
+use Rattle.ground.specs.Range.{within}
+use Rattle.ground.specs.Limits.{mostChambers, longestRun}
+use Rattle.ground.specs.Text.{bytes}
+use Rattle.hours.specs.Classes.{comma}
+use Rattle.hours.specs.Reading.{hourOf, plainOf}
+use Rattle.lines.specs.Fields.{field, shapeOf}
+use Rattle.lines.specs.declared.reading.Heading.{Heading}
+use Rattle.lines.specs.declared.reading.Order.{Order}
+use Rattle.lines.specs.declared.reading.Load.{Load}
+
+-- "grower (1 to 9,999)"
+abbrev pub lastGrower : ℕ
+lastGrower = 9_999
+
+-- "the word `steam`"
+unfoldable pub steam : List ℕ
+steam = 115 ∷ 116 ∷ 101 ∷ 97 ∷ 109 ∷ []
+
+-- two texts are the same, byte for byte
+unfoldable pub sameBytes : List ℕ → List ℕ → Bool
+sameBytes [] [] = true
+sameBytes [] (other ∷ others) = false
+sameBytes (byte ∷ rest) [] = false
+sameBytes (byte ∷ rest) (other ∷ others) = eqb byte other && sameBytes rest others
+
+-- a number field: 2, then 4 where it is out of its range
+unfoldable pub plainWithin : ℕ → ℕ → List ℕ → Read ℕ
+plainWithin low high text = do
+  number ← plainOf text
+  check (within low high number) 4
+  right number
+
+-- an hour field with a range of its own: 3, then 4
+unfoldable pub hourWithin : ℕ → ℕ → List ℕ → Read ℕ
+hourWithin low high text = do
+  hour ← hourOf comma text
+  check (within low high hour) 4
+  right hour
+
+-- "First line: the word `steam`, the number of chambers (1 to 8), the run in hours"
+unfoldable pub headingOf : List ℕ → Read Heading
+headingOf line = do
+  shapeOf 3 line
+  check (sameBytes (field 0 line) steam) 1
+  chambers ← plainWithin 1 mostChambers (field 1 line)
+  run ← hourWithin 1 longestRun (field 2 line)
+  right (record { chambers = chambers; run = run })
+
+-- "Each further line is an order: grower (1 to 9,999), ready hour, due hour"
+unfoldable pub orderOf : List ℕ → Read Order
+orderOf line = do
+  shapeOf 3 line
+  grower ← plainWithin 1 lastGrower (field 0 line)
+  ready ← hourOf comma (field 1 line)
+  due ← hourOf comma (field 2 line)
+  right (record { grower = grower; ready = ready; due = due })
+
+-- a plan's line: "line number of the order in its list, chamber, start hour", with "a plan's chamber (1 to the list's count)"
+unfoldable pub loadOf : ℕ → List ℕ → Read Load
+loadOf count line = do
+  shapeOf 3 line
+  order ← plainOf (field 0 line)
+  chamber ← plainWithin 1 count (field 1 line)
+  start ← hourOf comma (field 2 line)
+  right (record { order = order; chamber = chamber; start = start })
