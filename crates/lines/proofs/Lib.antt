@@ -1,3 +1,5 @@
 -- The laws of this room, by what they are about.
 pub mod Lines
 pub mod Splitting
+pub mod Words
+pub mod LineReading

@@ -3,7 +3,7 @@ use Prim.Native.Nat.{ℕ, zero, suc, _+_, _-_, _≤_, _<_}
 use mathlib.Core.Path.{_≡_, refl, sym, ap, _∙_}
 use mathlib.Core.Bool.{Bool, true, false, cond}
 use mathlib.Core.List.{List, [], _∷_}
-use lib.ListN.{length, getD, take, drop, length-take, length-drop, drop-of-length-le}
+use lib.ListN.{length, getD, take, drop, length-take, drop-of-length-le}
 use lib.Seq.{drop-cons}
 use lib.Dec.{eqb}
 use native.Mathlib.Numerals.{add-one}
@@ -15,7 +15,7 @@ use Rattle.hours.specs.Classes.{comma, classOf}
 use Rattle.hours.specs.declared.Class.{Class}
 use Rattle.hours.specs.declared.Class.the-variants.{Digit, Mark, Tab, LineEnd, Foreign}
 use Rattle.lines.specs.Lines.{lineEnd, before}
-use Rattle.lines.specs.Fields.{tab, isNone, isEnded, fieldsOf, field, afterField, fieldCount, endsField, endsLine, tabsIn}
+use Rattle.lines.specs.Fields.{tab, isNone, isEnded, fieldsOf, field, afterField, endsField, endsLine, tabsIn}
 
 -- a class that neither ends a field nor counts as a tab
 record Plain (class : Class) : Type 0 where

@@ -13,6 +13,13 @@ use Rattle.lines.specs.Lines.{lineEnd, before}
 abbrev pub tab : ℕ
 tab = 9
 
+-- two texts are the same, byte for byte
+unfoldable pub sameBytes : List ℕ → List ℕ → Bool
+sameBytes [] [] = true
+sameBytes [] (other ∷ others) = false
+sameBytes (byte ∷ rest) [] = false
+sameBytes (byte ∷ rest) (other ∷ others) = eqb byte other && sameBytes rest others
+
 -- nothing follows
 abbrev pub isNone : List ℕ → Bool
 isNone [] = true

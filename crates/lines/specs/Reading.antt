@@ -1,18 +1,26 @@
 -- How the lines of lists and plans are read: "A line: 1 first, then its fields from the left, each 2 or 3 and then 4." Assumes nothing.
 use Prim.Native.Nat.{ℕ}
-use mathlib.Core.Bool.{Bool, true, false, _&&_}
 use mathlib.Core.List.{List, [], _∷_}
-use lib.Dec.{eqb}
 use Rattle.ground.specs.Refusal.{Read, wrong, right, check, _>>=_, _>>_}
 use Rattle.ground.specs.Range.{within}
 use Rattle.ground.specs.Limits.{mostChambers, longestRun}
-use Rattle.ground.specs.Text.{bytes}
 use Rattle.hours.specs.Classes.{comma}
 use Rattle.hours.specs.Reading.{hourOf, plainOf}
-use Rattle.lines.specs.Fields.{field, shapeOf}
+use Rattle.lines.specs.Fields.{field, sameBytes, shapeOf}
 use Rattle.lines.specs.declared.reading.Heading.{Heading}
 use Rattle.lines.specs.declared.reading.Order.{Order}
 use Rattle.lines.specs.declared.reading.Load.{Load}
+use Rattle.lines.specs.declared.reading.Three.{Three}
+use Rattle.lines.specs.declared.reading.HeadingRead.{HeadingRead}
+use Rattle.lines.specs.declared.reading.HeadingRead.the-variants as heading
+use Rattle.lines.specs.declared.reading.OrderRead.{OrderRead}
+use Rattle.lines.specs.declared.reading.OrderRead.the-variants as order
+use Rattle.lines.specs.declared.reading.LoadRead.{LoadRead}
+use Rattle.lines.specs.declared.reading.LoadRead.the-variants as load
+use Rattle.lines.specs.declared.reading.FieldRead.{FieldRead}
+use Rattle.lines.specs.declared.reading.FieldRead.the-variants as one
+use Rattle.lines.specs.declared.reading.ThreeRead.{ThreeRead}
+use Rattle.lines.specs.declared.reading.ThreeRead.the-variants as three
 
 -- "grower (1 to 9,999)"
 abbrev pub lastGrower : ℕ
@@ -22,32 +30,35 @@ lastGrower = 9_999
 unfoldable pub steam : List ℕ
 steam = 115 ∷ 116 ∷ 101 ∷ 97 ∷ 109 ∷ []
 
--- two texts are the same, byte for byte
-unfoldable pub sameBytes : List ℕ → List ℕ → Bool
-sameBytes [] [] = true
-sameBytes [] (other ∷ others) = false
-sameBytes (byte ∷ rest) [] = false
-sameBytes (byte ∷ rest) (other ∷ others) = eqb byte other && sameBytes rest others
+-- 1: "first word of a list's first line is not `steam`"; the word has no number, so 0 stands for it
+unfoldable pub steamAt : List ℕ → Read ℕ
+steamAt text = do
+  check (sameBytes text steam) 1
+  right 0
+
+-- 4: "a number, read or given, is out of its range"
+unfoldable pub ranged : ℕ → ℕ → ℕ → Read ℕ
+ranged low high number = do
+  check (within low high number) 4
+  right number
 
 -- a number field: 2, then 4 where it is out of its range
 unfoldable pub plainWithin : ℕ → ℕ → List ℕ → Read ℕ
 plainWithin low high text = do
   number ← plainOf text
-  check (within low high number) 4
-  right number
+  ranged low high number
 
 -- an hour field with a range of its own: 3, then 4
 unfoldable pub hourWithin : ℕ → ℕ → List ℕ → Read ℕ
 hourWithin low high text = do
   hour ← hourOf comma text
-  check (within low high hour) 4
-  right hour
+  ranged low high hour
 
 -- "First line: the word `steam`, the number of chambers (1 to 8), the run in hours"
 unfoldable pub headingOf : List ℕ → Read Heading
 headingOf line = do
   shapeOf 3 line
-  check (sameBytes (field 0 line) steam) 1
+  word ← steamAt (field 0 line)
   chambers ← plainWithin 1 mostChambers (field 1 line)
   run ← hourWithin 1 longestRun (field 2 line)
   right (record { chambers = chambers; run = run })
@@ -69,3 +80,32 @@ loadOf count line = do
   chamber ← plainWithin 1 count (field 1 line)
   start ← hourOf comma (field 2 line)
   right (record { order = order; chamber = chamber; start = start })
+
+-- the paper's number and values for each case of an answer
+abbrev pub asHeading : HeadingRead → Read Heading
+asHeading (heading.Read values) = right values
+asHeading (heading.Refused number) = wrong number
+
+abbrev pub asOrder : OrderRead → Read Order
+asOrder (order.Read values) = right values
+asOrder (order.Refused number) = wrong number
+
+abbrev pub asLoad : LoadRead → Read Load
+asLoad (load.Read values) = right values
+asLoad (load.Refused number) = wrong number
+
+-- what one field comes to, and three of them read from the left: "A field that does not read ends the reading of its line there"
+abbrev pub asField : FieldRead → Read ℕ
+asField (one.Number number) = right number
+asField (one.Refused number) = wrong number
+
+abbrev pub asThree : ThreeRead → Read Three
+asThree (three.Numbers numbers) = right numbers
+asThree (three.Refused number) = wrong number
+
+unfoldable pub threeOf : Read ℕ → Read ℕ → Read ℕ → Read Three
+threeOf one two last = do
+  first ← one
+  second ← two
+  third ← last
+  right (record { first = first; second = second; third = third })

@@ -4,7 +4,7 @@ ghost use mathlib.Core.Path.{_≡_};
 ghost use mathlib.Core.Bool.{cond};
 ghost use lib.ListN.{length};
 ghost use lib.Dec.{eqb};
-ghost use Rattle.lines.specs.Fields.{field, afterField, fieldCount, endsField, endsLine, tabsIn};
+ghost use Rattle.lines.specs.Fields.{field, afterField, fieldCount, sameBytes, endsField, endsLine, tabsIn};
 use hours::Class;
 
 // Whether a byte of this class ends a field.
@@ -115,4 +115,21 @@ pub fn field_at<'a>(line: &'a [u8], place: usize) -> &'a [u8]
         return first_field(line);
     }
     field_at(after_field(line), place - 1)
+}
+
+// Whether two texts are the same, byte for byte.
+pub fn same_bytes(one: &[u8], other: &[u8]) -> bool
+    ensures { λ r. ⌜ r ≡ sameBytes (now (one .entry)) (now (other .entry)) ⌝ }
+{
+    if one.len() != other.len() {
+        return false;
+    }
+    let mut at: usize = 0;
+    while at < one.len() {
+        if one[at] != other[at] {
+            return false;
+        }
+        at += 1;
+    }
+    true
 }

@@ -1,0 +1,73 @@
+-- `read_heading` refuses a line of the wrong shape, and makes of any other what its three fields read as.
+use Prim.Native.Nat.{ℕ}
+use mathlib.Core.Path.{_≡_, sym, _∙_}
+use borrow.Author.Needs.{needs}
+use Rattle.ground.specs.Refusal.{right, _>>=_}
+use Rattle.ground.specs.Limits.{mostChambers, longestRun}
+use Rattle.lines.specs.Fields.{field}
+use Rattle.lines.specs.Reading.{asThree, headingOf, plainWithin, hourWithin, steamAt}
+use Rattle.lines.specs.declared.reading.Heading.{Heading}
+use Rattle.lines.proofs.LineReading.{shape-wrong, made-of-line}
+use Rattle.lines.proofs.reading.read_heading.Statement.{statement}
+use Rattle.lines.proofs.reading.read_heading.Tie as tie
+
+-- what the three numbers stand for
+made : ℕ → ℕ → ℕ → Heading
+made first second third = record { chambers = second; run = third }
+
+field-count-requires : tie.Need-field-count-requires
+field-count-requires c κs = search needs
+
+returns : tie.Need-returns
+unfolding headingOf
+returns c = rw (shape-wrong 2 _ (λ counted. c .if1 .taken (c .before .field-count .ensures ∙ counted)))
+
+plain-at-requires : tie.Need-plain-at-requires
+plain-at-requires c κs = search needs
+
+hour-at-requires : tie.Need-hour-at-requires
+hour-at-requires c κs = search needs
+
+steam-at-requires : tie.Need-steam-at-requires
+steam-at-requires c κs = search needs
+
+three-of-requires : tie.Need-three-of-requires
+three-of-requires c κs = search needs
+
+enum-known-read : tie.Need-enum-known-read
+enum-known-read c = search needs
+
+enum-known-number : tie.Need-enum-known-number
+enum-known-number c = search needs
+
+-- past the shape, the line is made of what its fields read as
+read-as : (c : tie.After-three-of) → headingOf (c .before .before .before .before .before .before .before .args .line .now) ≡ (asThree (c .three-of .result) >>= λ numbers. right (made (numbers .first) (numbers .second) (numbers .third)))
+unfolding headingOf made
+read-as c =
+    let line = c .before .before .before .before .before .before .before .args .line .now in
+    made-of-line line (steamAt (field 0 line)) (plainWithin 1 mostChambers (field 1 line)) (hourWithin 1 longestRun (field 2 line)) made (asThree (c .three-of .result))
+    (sym (c .before .before .before .before .before .field-count .ensures) ∙ c .before .before .before .before .if1 .left)
+    (c .three-of .ensures ∙ rw (c .before .steam-at .ensures, c .before .before .before .plain-at .ensures, c .before .before .hour-at .ensures))
+
+returns-2 : tie.Need-returns-2
+unfolding made
+returns-2 c = rw (read-as (c .before .before .before), c .before .read .given .1)
+
+returns-3 : tie.Need-returns-3
+unfolding made
+returns-3 c = rw (read-as (c .before .before .before), c .before .number .given .1)
+
+pub read-heading-spec : {M : Type 1} → statement M
+read-heading-spec =
+    tie.close
+    (tie.spec
+    field-count-requires
+    returns
+    plain-at-requires
+    hour-at-requires
+    steam-at-requires
+    three-of-requires
+    enum-known-read
+    enum-known-number
+    returns-2
+    returns-3)

@@ -1,0 +1,74 @@
+-- `read_order` refuses a line of the wrong shape, and makes of any other what its three fields read as.
+use Prim.Native.Nat.{ℕ}
+use mathlib.Core.Path.{_≡_, sym, _∙_}
+use borrow.Author.Needs.{needs}
+use Rattle.ground.specs.Refusal.{right, _>>=_}
+use Rattle.hours.specs.Classes.{comma}
+use Rattle.hours.specs.Reading.{hourOf}
+use Rattle.lines.specs.Fields.{field}
+use Rattle.lines.specs.Reading.{asThree, orderOf, plainWithin, lastGrower}
+use Rattle.lines.specs.declared.reading.Order.{Order}
+use Rattle.lines.proofs.LineReading.{shape-wrong, made-of-line, any-hour}
+use Rattle.lines.proofs.reading.read_order.Statement.{statement}
+use Rattle.lines.proofs.reading.read_order.Tie as tie
+
+-- what the three numbers stand for
+made : ℕ → ℕ → ℕ → Order
+made first second third = record { grower = first; ready = second; due = third }
+
+field-count-requires : tie.Need-field-count-requires
+field-count-requires c κs = search needs
+
+returns : tie.Need-returns
+unfolding orderOf
+returns c = rw (shape-wrong 2 _ (λ counted. c .if1 .taken (c .before .field-count .ensures ∙ counted)))
+
+hour-at-requires : tie.Need-hour-at-requires
+hour-at-requires c κs = search needs
+
+hour-at-requires-2 : tie.Need-hour-at-requires-2
+hour-at-requires-2 c κs = search needs
+
+plain-at-requires : tie.Need-plain-at-requires
+plain-at-requires c κs = search needs
+
+three-of-requires : tie.Need-three-of-requires
+three-of-requires c κs = search needs
+
+enum-known-read : tie.Need-enum-known-read
+enum-known-read c = search needs
+
+enum-known-number : tie.Need-enum-known-number
+enum-known-number c = search needs
+
+-- past the shape, the line is made of what its fields read as
+read-as : (c : tie.After-three-of) → orderOf (c .before .before .before .before .before .before .before .args .line .now) ≡ (asThree (c .three-of .result) >>= λ numbers. right (made (numbers .first) (numbers .second) (numbers .third)))
+unfolding orderOf made
+read-as c =
+    let line = c .before .before .before .before .before .before .before .args .line .now in
+    made-of-line line (plainWithin 1 lastGrower (field 0 line)) (hourOf comma (field 1 line)) (hourOf comma (field 2 line)) made (asThree (c .three-of .result))
+    (sym (c .before .before .before .before .before .field-count .ensures) ∙ c .before .before .before .before .if1 .left)
+    (c .three-of .ensures ∙ rw (c .before .plain-at .ensures, c .before .before .before .hour-at .ensures, c .before .before .hour-at2 .ensures, any-hour, any-hour))
+
+returns-2 : tie.Need-returns-2
+unfolding made
+returns-2 c = rw (read-as (c .before .before .before), c .before .read .given .1)
+
+returns-3 : tie.Need-returns-3
+unfolding made
+returns-3 c = rw (read-as (c .before .before .before), c .before .number .given .1)
+
+pub read-order-spec : {M : Type 1} → statement M
+read-order-spec =
+    tie.close
+    (tie.spec
+    field-count-requires
+    returns
+    hour-at-requires
+    hour-at-requires-2
+    plain-at-requires
+    three-of-requires
+    enum-known-read
+    enum-known-number
+    returns-2
+    returns-3)
