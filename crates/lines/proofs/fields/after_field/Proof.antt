@@ -1,12 +1,12 @@
 -- `after_field` is what follows the tab at which the first field ends, or nothing.
-use Prim.Native.Nat.{ℕ, _-_, _≤_}
+use Prim.Native.Nat.{ℕ, _+_, _-_, _≤_}
 use mathlib.Core.Path.{_≡_, sym, _∙_}
 use mathlib.Core.List.{List}
 use native.Mathlib.Omega.{arith}
 use borrow.Author.Needs.{needs}
 use lib.ListN.{length, getD, take, drop, length-drop, List·getD-eq-default}
 use lib.Seq.{take-all}
-use Rattle.lines.specs.Fields.{tab}
+use Rattle.lines.specs.Fields.{tab, field}
 use Rattle.lines.proofs.Splitting.{after-tab, after-none}
 use Rattle.lines.proofs.fields.after_field.Statement.{statement}
 use Rattle.lines.proofs.fields.after_field.Tie as tie
@@ -26,7 +26,10 @@ slice-aggregate-result : tie.Need-slice-aggregate-result
 slice-aggregate-result c = search needs
 
 returns : tie.Need-returns
-returns c = sym (after-none _ (λ found. absurd (past-is-none _ _ (rw (c .before .before .field-end .ensures) at (c .before .if1 .taken)) found)))
+returns c =
+    let line = c .before .before .before .before .args .line .now in
+    let past : length line ≤ length (field 0 line) = rw (c .before .before .field-end .ensures) at (c .before .if1 .taken) in
+    sym (after-none line (λ found. past-is-none line (length (field 0 line)) past found))
 
 shared-slice-read-if2 : tie.Need-shared-slice-read-if2
 shared-slice-read-if2 c = search needs
@@ -50,7 +53,10 @@ part-result-end : tie.Need-part-result-end
 part-result-end c = search needs
 
 returns-3 : tie.Need-returns-3
-returns-3 c = rw (c .before .before .before .before .field-end .ensures) (to-the-end _ _ ∙ sym (after-tab _ (rw (c .before .before .before .before .field-end .ensures) at (c .before .if2 .left))))
+returns-3 c =
+    let line = c .before .before .before .before .before .before .args .line .now in
+    let found : getD line (length (field 0 line)) 0 ≡ tab = rw (c .before .before .before .before .field-end .ensures) at (c .before .if2 .left) in
+    rw (c .before .before .before .before .field-end .ensures) (to-the-end line (length (field 0 line) + 1) ∙ sym (after-tab line found))
 
 pub after-field-spec : {M : Type 1} → statement M
 after-field-spec =
