@@ -2,4 +2,6 @@
 pub mod Lines
 pub mod Splitting
 pub mod Words
+pub mod Splits
 pub mod LineReading
+pub mod PlanLine

@@ -3,3 +3,4 @@ pub mod Lines
 pub mod Fields
 pub mod Reading
 pub mod Writing
+pub mod Meaning

@@ -1,9 +1,11 @@
 -- How a plan line is written "from its three numbers (order line 2 to 513, chamber 1 to 8, start)". Assumes nothing.
-use Prim.Native.Nat.{ℕ, suc}
+use Prim.Native.Nat.{ℕ, suc, _≤_}
+use mathlib.Core.Bool.{Bool, _&&_}
 use mathlib.Core.List.{List, [], _∷_, _++_}
+use lib.Dec.{leb}
 use Rattle.ground.specs.Refusal.{Read, right, check, _>>=_, _>>_}
 use Rattle.ground.specs.Range.{within}
-use Rattle.ground.specs.Limits.{mostChambers, mostOrders}
+use Rattle.ground.specs.Limits.{lastHour, mostChambers, mostOrders}
 use Rattle.ground.specs.Digits.{spelled}
 use Rattle.hours.specs.Classes.{comma}
 use Rattle.hours.specs.Writing.{hourText, hourWritten}
@@ -16,6 +18,16 @@ firstOrderLine = 2
 
 abbrev pub lastOrderLine : ℕ
 lastOrderLine = suc mostOrders
+
+-- the three numbers lie in their ranges
+pub record InRange (order chamber start : ℕ) : Type 0 where
+  pub order-line : (firstOrderLine ≤ order) × (order ≤ lastOrderLine)
+  pub chamber-number : (1 ≤ chamber) × (chamber ≤ mostChambers)
+  pub start-hour : start ≤ lastHour
+
+-- and the test of it
+abbrev pub inRange : ℕ → ℕ → ℕ → Bool
+inRange order chamber start = within firstOrderLine lastOrderLine order && within 1 mostChambers chamber && leb start lastHour
 
 -- a plan line's text: order line, chamber and start, with tabs between and the line end behind
 unfoldable pub planText : ℕ → ℕ → ℕ → List ℕ

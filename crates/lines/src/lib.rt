@@ -3,3 +3,4 @@
 pub mod fields;
 pub mod reading;
 pub mod walk;
+pub mod writing;
