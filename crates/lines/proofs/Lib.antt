@@ -4,4 +4,6 @@ pub mod Splitting
 pub mod Words
 pub mod Splits
 pub mod LineReading
+pub mod WholeText
 pub mod PlanLine
+pub mod RoundTrip

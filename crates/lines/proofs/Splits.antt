@@ -1,7 +1,7 @@
 -- A line has the fields that it is split into: the computing definitions and the saying ones are one. Assumes nothing.
-use Prim.Native.Nat.{ℕ, zero, suc, _≤_}
+use Prim.Native.Nat.{ℕ, _≤_}
 use mathlib.Core.Path.{_≡_, refl, sym, ap, _∙_}
-use mathlib.Core.Bool.{Bool, true, false, not, cond, _&&_}
+use mathlib.Core.Bool.{Bool, true, false, not, _&&_}
 use mathlib.Core.List.{List, [], _∷_, _++_, append-assoc}
 use mathlib.Core.Logic.{_↔_}
 use lib.ListN.{length}
@@ -9,7 +9,7 @@ use lib.Dec.{eqb}
 use native.Mathlib.Omega.{arith}
 use borrow.Author.Tests.{eq-eqb, eqb-true, not-true}
 use Rattle.ground.specs.Refusal.{right, check}
-use Rattle.ground.proofs.Tests.{by-test, never-both, both, first-of, second-of}
+use Rattle.ground.proofs.Tests.{by-test, never-both, first-of, second-of}
 use Rattle.ground.proofs.Refusal.{never-right}
 use Rattle.lines.specs.Lines.{lineEnd, before}
 use Rattle.lines.specs.Fields.{tab, isNone, isEnded, fieldsOf, shapeOf}

@@ -14,6 +14,22 @@ use Rattle.lines.specs.Lines.{lineEnd}
 use Rattle.lines.specs.Fields.{tab, field}
 use Rattle.lines.specs.Reading.{steam, lastGrower}
 
+-- a text with no line end in it
+unfoldable pub isUnbroken : List ℕ → Bool
+isUnbroken [] = true
+isUnbroken (byte ∷ rest) = not (eqb byte lineEnd) && isUnbroken rest
+
+-- texts one behind the other
+unfoldable pub joined : List (List ℕ) → List ℕ
+joined [] = []
+joined (text ∷ texts) = text ++ joined texts
+
+-- "Each line ends with byte 10. Bytes after the last byte 10, if there are any, count as a line"
+pub data AreLines : List (List ℕ) → Type 0 where
+  none : AreLines []
+  unended : (line : List ℕ) → 1 ≤ length line → isUnbroken line ≡ true → AreLines (line ∷ [])
+  more : (body : List ℕ) (lines : List (List ℕ)) → isUnbroken body ≡ true → AreLines lines → AreLines ((body ++ lineEnd ∷ []) ∷ lines)
+
 -- a text with neither a tab nor a line end in it
 unfoldable pub isClean : List ℕ → Bool
 isClean [] = true
