@@ -1,12 +1,12 @@
 -- Laws of reading a line: its shape by its count of fields, and its fields from the left. Assumes nothing.
 use Prim.Native.Nat.{ℕ, suc}
 use mathlib.Core.Path.{_≡_, refl}
-use mathlib.Core.Bool.{Bool, true, false, cond, _&&_}
+use mathlib.Core.Bool.{Bool, true, false, not, cond, _&&_}
 use mathlib.Core.List.{List}
 use lib.ListN.{length}
 use lib.Dec.{eqb}
 use native.Mathlib.Omega.{arith}
-use borrow.Author.Tests.{eq-eqb, ne-eqb}
+use borrow.Author.Tests.{eq-eqb, ne-eqb, eqb-true, eqb-false, not-true, not-false}
 use Rattle.ground.specs.Refusal.{Read, wrong, right, check, _>>=_, _>>_}
 use Rattle.ground.specs.Limits.{lastHour}
 use Rattle.ground.proofs.Range.{within-from}
@@ -37,6 +37,13 @@ module _ (count : ℕ) (line : List ℕ) where
           → check (ended && eqb (length (fieldsOf line)) (suc count)) 1 ≡ wrong 1
       go true other = rw (ne-eqb _ _ other)
       go false other = refl
+
+-- the same by the test of it
+pub shape-tested : (line : List ℕ) → not (eqb (fieldCount line) 3) ≡ false → fieldCount line ≡ 3
+shape-tested line passed = eqb-true _ _ (not-false _ passed)
+
+pub shape-failed : (line : List ℕ) → not (eqb (fieldCount line) 3) ≡ true → shapeOf 3 line ≡ wrong 1
+shape-failed line failed = shape-wrong 2 line (eqb-false _ _ (not-true _ failed))
 
 -- three fields read one after another, made into what they stand for
 pub made-of-three :

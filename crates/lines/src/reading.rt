@@ -1,8 +1,10 @@
 // The lines of order lists and plans as numbers: a heading, an order, a load of a plan.
 // Any bytes may come; what is wrong first, in the paper's order, is the refusal. Assumes nothing.
 ghost use mathlib.Core.Path.{_≡_};
+ghost use mathlib.Core.Bool.{not};
+ghost use lib.Dec.{eqb};
 ghost use Rattle.ground.specs.Refusal.{right};
-ghost use Rattle.lines.specs.Fields.{field};
+ghost use Rattle.lines.specs.Fields.{field, fieldCount};
 ghost use Rattle.lines.specs.Reading.{steamAt, ranged, plainWithin, hourWithin, threeOf, headingOf, orderOf, loadOf, asField, asThree, asHeading, asOrder, asLoad};
 use crate::fields;
 use ground::LAST_HOUR;
@@ -106,6 +108,13 @@ fn hour_at(line: &[u8], place: usize, low: u32, high: u32) -> FieldRead
     }
 }
 
+// Whether a line is not ended or has not three fields.
+fn is_misshapen(line: &[u8]) -> bool
+    ensures { λ r. ⌜ r ≡ not (eqb (fieldCount (now (line .entry))) 3) ⌝ }
+{
+    fields::field_count(line) != 3
+}
+
 // Three fields from the left: the first that does not read ends the reading.
 fn three_of(first: FieldRead, second: FieldRead, third: FieldRead) -> ThreeRead
     ensures { λ r. ⌜ asThree r ≡ threeOf (asField first) (asField second) (asField third) ⌝ }
@@ -152,7 +161,7 @@ fn steam_at(line: &[u8]) -> FieldRead
 pub fn read_heading(line: &[u8]) -> HeadingRead
     ensures { λ r. ⌜ asHeading r ≡ headingOf (now (line .entry)) ⌝ }
 {
-    if fields::field_count(line) != 3 {
+    if is_misshapen(line) {
         return HeadingRead::Refused(1);
     }
     let chambers = plain_at(line, 1, 1, MOST_CHAMBERS);
@@ -170,7 +179,7 @@ pub fn read_heading(line: &[u8]) -> HeadingRead
 pub fn read_order(line: &[u8]) -> OrderRead
     ensures { λ r. ⌜ asOrder r ≡ orderOf (now (line .entry)) ⌝ }
 {
-    if fields::field_count(line) != 3 {
+    if is_misshapen(line) {
         return OrderRead::Refused(1);
     }
     let ready = hour_at(line, 1, 0, LAST_HOUR);
@@ -189,7 +198,7 @@ pub fn read_order(line: &[u8]) -> OrderRead
 pub fn read_load(line: &[u8], count: u32) -> LoadRead
     ensures { λ r. ⌜ asLoad r ≡ loadOf count (now (line .entry)) ⌝ }
 {
-    if fields::field_count(line) != 3 {
+    if is_misshapen(line) {
         return LoadRead::Refused(1);
     }
     let chamber = plain_at(line, 1, 1, count);

@@ -7,7 +7,7 @@ use Rattle.ground.specs.Limits.{mostChambers, longestRun}
 use Rattle.lines.specs.Fields.{field}
 use Rattle.lines.specs.Reading.{asThree, headingOf, plainWithin, hourWithin, steamAt}
 use Rattle.lines.specs.declared.reading.Heading.{Heading}
-use Rattle.lines.proofs.LineReading.{shape-wrong, made-of-line}
+use Rattle.lines.proofs.LineReading.{shape-failed, shape-tested, made-of-line}
 use Rattle.lines.proofs.reading.read_heading.Statement.{statement}
 use Rattle.lines.proofs.reading.read_heading.Tie as tie
 
@@ -15,12 +15,12 @@ use Rattle.lines.proofs.reading.read_heading.Tie as tie
 made : ℕ → ℕ → ℕ → Heading
 made first second third = record { chambers = second; run = third }
 
-field-count-requires : tie.Need-field-count-requires
-field-count-requires c κs = search needs
+is-misshapen-requires : tie.Need-is-misshapen-requires
+is-misshapen-requires c κs = search needs
 
 returns : tie.Need-returns
 unfolding headingOf
-returns c = rw (shape-wrong 2 _ (λ counted. c .if1 .taken (c .before .field-count .ensures ∙ counted)))
+returns c = rw (shape-failed _ (sym (c .before .is-misshapen .ensures) ∙ c .if1 .taken))
 
 plain-at-requires : tie.Need-plain-at-requires
 plain-at-requires c κs = search needs
@@ -46,7 +46,7 @@ unfolding headingOf made
 read-as c =
     let line = c .before .before .before .before .before .before .before .args .line .now in
     made-of-line line (steamAt (field 0 line)) (plainWithin 1 mostChambers (field 1 line)) (hourWithin 1 longestRun (field 2 line)) made (asThree (c .three-of .result))
-    (sym (c .before .before .before .before .before .field-count .ensures) ∙ c .before .before .before .before .if1 .left)
+    (shape-tested line (sym (c .before .before .before .before .before .is-misshapen .ensures) ∙ c .before .before .before .before .if1 .left))
     (c .three-of .ensures ∙ rw (c .before .steam-at .ensures, c .before .before .before .plain-at .ensures, c .before .before .hour-at .ensures))
 
 returns-2 : tie.Need-returns-2
@@ -61,7 +61,7 @@ pub read-heading-spec : {M : Type 1} → statement M
 read-heading-spec =
     tie.close
     (tie.spec
-    field-count-requires
+    is-misshapen-requires
     returns
     plain-at-requires
     hour-at-requires

@@ -8,7 +8,7 @@ use Rattle.hours.specs.Reading.{hourOf, plainOf}
 use Rattle.lines.specs.Fields.{field}
 use Rattle.lines.specs.Reading.{asThree, loadOf, plainWithin}
 use Rattle.lines.specs.declared.reading.Load.{Load}
-use Rattle.lines.proofs.LineReading.{shape-wrong, made-of-line, any-hour, any-plain}
+use Rattle.lines.proofs.LineReading.{shape-failed, shape-tested, made-of-line, any-hour, any-plain}
 use Rattle.lines.proofs.reading.read_load.Statement.{statement}
 use Rattle.lines.proofs.reading.read_load.Tie as tie
 
@@ -16,12 +16,12 @@ use Rattle.lines.proofs.reading.read_load.Tie as tie
 made : ℕ → ℕ → ℕ → Load
 made first second third = record { order = first; chamber = second; start = third }
 
-field-count-requires : tie.Need-field-count-requires
-field-count-requires c κs = search needs
+is-misshapen-requires : tie.Need-is-misshapen-requires
+is-misshapen-requires c κs = search needs
 
 returns : tie.Need-returns
 unfolding loadOf
-returns c = rw (shape-wrong 2 _ (λ counted. c .if1 .taken (c .before .field-count .ensures ∙ counted)))
+returns c = rw (shape-failed _ (sym (c .before .is-misshapen .ensures) ∙ c .if1 .taken))
 
 plain-at-requires : tie.Need-plain-at-requires
 plain-at-requires c κs = search needs
@@ -47,7 +47,7 @@ unfolding loadOf made
 read-as c =
     let line = c .before .before .before .before .before .before .before .args .line .now in
     made-of-line line (plainOf (field 0 line)) (plainWithin 1 (c .before .before .before .before .before .before .before .args .count) (field 1 line)) (hourOf comma (field 2 line)) made (asThree (c .three-of .result))
-    (sym (c .before .before .before .before .before .field-count .ensures) ∙ c .before .before .before .before .if1 .left)
+    (shape-tested line (sym (c .before .before .before .before .before .is-misshapen .ensures) ∙ c .before .before .before .before .if1 .left))
     (c .three-of .ensures ∙ rw (c .before .plain-at2 .ensures, c .before .before .before .plain-at .ensures, c .before .before .hour-at .ensures, any-plain, any-hour))
 
 returns-2 : tie.Need-returns-2
@@ -62,7 +62,7 @@ pub read-load-spec : {M : Type 1} → statement M
 read-load-spec =
     tie.close
     (tie.spec
-    field-count-requires
+    is-misshapen-requires
     returns
     plain-at-requires
     hour-at-requires

@@ -8,7 +8,7 @@ use Rattle.hours.specs.Reading.{hourOf}
 use Rattle.lines.specs.Fields.{field}
 use Rattle.lines.specs.Reading.{asThree, orderOf, plainWithin, lastGrower}
 use Rattle.lines.specs.declared.reading.Order.{Order}
-use Rattle.lines.proofs.LineReading.{shape-wrong, made-of-line, any-hour}
+use Rattle.lines.proofs.LineReading.{shape-failed, shape-tested, made-of-line, any-hour}
 use Rattle.lines.proofs.reading.read_order.Statement.{statement}
 use Rattle.lines.proofs.reading.read_order.Tie as tie
 
@@ -16,12 +16,12 @@ use Rattle.lines.proofs.reading.read_order.Tie as tie
 made : ℕ → ℕ → ℕ → Order
 made first second third = record { grower = first; ready = second; due = third }
 
-field-count-requires : tie.Need-field-count-requires
-field-count-requires c κs = search needs
+is-misshapen-requires : tie.Need-is-misshapen-requires
+is-misshapen-requires c κs = search needs
 
 returns : tie.Need-returns
 unfolding orderOf
-returns c = rw (shape-wrong 2 _ (λ counted. c .if1 .taken (c .before .field-count .ensures ∙ counted)))
+returns c = rw (shape-failed _ (sym (c .before .is-misshapen .ensures) ∙ c .if1 .taken))
 
 hour-at-requires : tie.Need-hour-at-requires
 hour-at-requires c κs = search needs
@@ -47,7 +47,7 @@ unfolding orderOf made
 read-as c =
     let line = c .before .before .before .before .before .before .before .args .line .now in
     made-of-line line (plainWithin 1 lastGrower (field 0 line)) (hourOf comma (field 1 line)) (hourOf comma (field 2 line)) made (asThree (c .three-of .result))
-    (sym (c .before .before .before .before .before .field-count .ensures) ∙ c .before .before .before .before .if1 .left)
+    (shape-tested line (sym (c .before .before .before .before .before .is-misshapen .ensures) ∙ c .before .before .before .before .if1 .left))
     (c .three-of .ensures ∙ rw (c .before .plain-at .ensures, c .before .before .before .hour-at .ensures, c .before .before .hour-at2 .ensures, any-hour, any-hour))
 
 returns-2 : tie.Need-returns-2
@@ -62,7 +62,7 @@ pub read-order-spec : {M : Type 1} → statement M
 read-order-spec =
     tie.close
     (tie.spec
-    field-count-requires
+    is-misshapen-requires
     returns
     hour-at-requires
     hour-at-requires-2
