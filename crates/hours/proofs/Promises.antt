@@ -98,7 +98,7 @@ plain-told (plain.Number one) (plain.Refused other) same = absurd (never-right (
 plain-told (plain.Refused one) (plain.Number other) same = absurd (never-right same)
 plain-told (plain.Refused one) (plain.Refused other) same = ap plain.Refused (same-wrong same)
 
-length-told : Injective asLength
+pub length-told : Injective asLength
 length-told (written.Length one) (written.Length other) same = ap written.Length (same-right same)
 length-told (written.Length one) (written.Refused other) same = absurd (never-right (sym same))
 length-told (written.Refused one) (written.Length other) same = absurd (never-right same)

@@ -7,3 +7,4 @@ pub mod LineReading
 pub mod WholeText
 pub mod PlanLine
 pub mod RoundTrip
+pub mod Promises

@@ -1,0 +1,163 @@
+-- What this room promises, about the very definitions that its contracts cite. Each is a line over a law of this folder. Assumes nothing.
+use Prim.Native.Nat.{ℕ, _≤_, _<_}
+use mathlib.Core.Path.{_≡_, sym, ap}
+use mathlib.Core.Bool.{Bool, true}
+use mathlib.Core.List.{List, [], _∷_}
+use mathlib.Core.Logic.{_↔_}
+use lib.ListN.{length, take, drop}
+use Rattle.ground.specs.Refusal.{wrong, right}
+use Rattle.ground.specs.Buffer.{fitted, lengthOf, bufferAfter}
+use Rattle.ground.specs.Outcome.{Injective, Single}
+use Rattle.ground.proofs.Refusal.{never-right, same-right, same-wrong}
+use Rattle.ground.proofs.Buffer.{refused-stays, written-rest}
+use Rattle.ground.proofs.Outcome.{single-answer, single-value, single-writing}
+use Rattle.hours.specs.Writing.{asLength}
+use Rattle.hours.specs.declared.Written.{Written}
+use Rattle.hours.proofs.Promises.{length-told}
+use Rattle.lines.specs.Lines.{linesOf, lineAt, pastLine}
+use Rattle.lines.specs.Fields.{isEnded, fieldsOf, field, afterField, fieldCount, sameBytes, shapeOf}
+use Rattle.lines.specs.Reading.{headingOf, orderOf, loadOf, asHeading, asOrder, asLoad}
+use Rattle.lines.specs.Writing.{InRange, planText, planWritten}
+use Rattle.lines.specs.Meaning.{joined, AreLines, Splits, HasFields}
+use Rattle.lines.specs.declared.reading.HeadingRead.the-variants as heading
+use Rattle.lines.specs.declared.reading.OrderRead.the-variants as order
+use Rattle.lines.specs.declared.reading.LoadRead.the-variants as load
+use Rattle.lines.proofs.WholeText as whole
+use Rattle.lines.proofs.Words as words
+use Rattle.lines.proofs.Splits as splits
+use Rattle.lines.proofs.PlanLine as plan
+use Rattle.lines.proofs.RoundTrip as back
+
+-- 2g: the lines joined are the text; every line but a last unended one ends with byte 10 and holds no other; and only these lines are so
+pub lines-joined : (text : List ℕ) → joined (linesOf text) ≡ text
+lines-joined = whole.lines-joined
+
+pub lines-are : (text : List ℕ) → AreLines (linesOf text)
+lines-are = whole.lines-are
+
+pub lines-only : (lines : List (List ℕ)) → AreLines lines → linesOf (joined lines) ≡ lines
+lines-only lines = whole.lines-only
+
+-- 2g: a walk at a place hands out the line there, a byte of it at least, and goes on past it; at or past the end it hands out the empty part and stays
+pub walk-on : (text : List ℕ) (at : ℕ) → at < length text → linesOf (drop at text) ≡ lineAt text at ∷ linesOf (drop (pastLine text at) text)
+walk-on = whole.walk-on
+
+pub walk-some : (text : List ℕ) (at : ℕ) → at < length text → 1 ≤ length (lineAt text at)
+walk-some = whole.walk-some
+
+pub walk-done : (text : List ℕ) (at : ℕ) → length text ≤ at → (linesOf (drop at text) ≡ []) × (lineAt text at ≡ []) × (pastLine text at ≡ at)
+walk-done = whole.walk-done
+
+-- a line is ended and has these fields exactly when it splits into them, and has the shape exactly when it splits into so many
+pub splits-exactly : (line : List ℕ) (fields : List (List ℕ)) → ((isEnded line ≡ true) × (fieldsOf line ≡ fields)) ↔ Splits line fields
+splits-exactly = splits.splits-exactly
+
+pub has-fields : (count : ℕ) (line : List ℕ) → (shapeOf count line ≡ right tt) ↔ HasFields count line
+has-fields = splits.has-fields
+
+-- two texts are the same byte for byte exactly when they are one
+pub same-exactly : (one other : List ℕ) → (sameBytes one other ≡ true) ↔ (one ≡ other)
+same-exactly = words.same-exactly
+
+-- 1b: a plan line is refused by 4 exactly when a number is out of its range, whatever the room
+pub refused-by-four :
+    (order chamber start : ℕ) (buffer : List ℕ)
+    → (lengthOf (fitted buffer (planWritten order chamber start)) ≡ wrong 4) ↔ (InRange order chamber start → ⊥)
+refused-by-four = plan.refused-by-four
+
+-- 1b: by 7 exactly when all are in range and the text is longer than the buffer
+pub refused-by-seven :
+    (order chamber start : ℕ) (buffer : List ℕ)
+    → (lengthOf (fitted buffer (planWritten order chamber start)) ≡ wrong 7)
+    ↔ (InRange order chamber start × (length buffer < length (planText order chamber start)))
+refused-by-seven = plan.refused-by-seven
+
+-- in every other case the text is what is written
+pub written-exactly :
+    (order chamber start : ℕ) (buffer bytes : List ℕ)
+    → (fitted buffer (planWritten order chamber start) ≡ right bytes)
+    ↔ (InRange order chamber start × (length (planText order chamber start) ≤ length buffer) × (bytes ≡ planText order chamber start))
+written-exactly = plan.written-exactly
+
+-- 1c: a refused write leaves every byte, and a write changes no byte but its own, at the front
+pub refused-write-stays :
+    (order chamber start : ℕ) (buffer : List ℕ) (number : ℕ) → lengthOf (fitted buffer (planWritten order chamber start)) ≡ wrong number
+    → bufferAfter buffer (fitted buffer (planWritten order chamber start)) ≡ buffer
+refused-write-stays order chamber start buffer = refused-stays buffer (fitted buffer (planWritten order chamber start))
+
+pub write-changes-its-own :
+    (order chamber start : ℕ) (buffer : List ℕ) (count : ℕ) → lengthOf (fitted buffer (planWritten order chamber start)) ≡ right count
+    → drop count (bufferAfter buffer (fitted buffer (planWritten order chamber start))) ≡ drop count buffer
+write-changes-its-own order chamber start buffer = written-rest buffer (fitted buffer (planWritten order chamber start))
+
+-- 2e: what was written reads back as its three numbers, with any list's count that admits the chamber
+pub written-reads-back :
+    (order chamber start : ℕ) (buffer : List ℕ) (length count : ℕ) → lengthOf (fitted buffer (planWritten order chamber start)) ≡ right length
+    → chamber ≤ count
+    → loadOf count (take length (bufferAfter buffer (fitted buffer (planWritten order chamber start))))
+    ≡ right (record { order = order; chamber = chamber; start = start })
+written-reads-back = back.written-reads-back
+
+-- 2e: different triples never give the same bytes
+pub texts-differ :
+    (order chamber start other-order other-chamber other-start : ℕ) → InRange order chamber start → InRange other-order other-chamber other-start
+    → planText order chamber start ≡ planText other-order other-chamber other-start
+    → (order ≡ other-order) × (chamber ≡ other-chamber) × (start ≡ other-start)
+texts-differ = back.texts-differ
+
+-- the paper's number and values tell the cases of an answer apart
+heading-told : Injective asHeading
+heading-told (heading.Read one) (heading.Read other) same = ap heading.Read (same-right same)
+heading-told (heading.Read one) (heading.Refused other) same = absurd (never-right (sym same))
+heading-told (heading.Refused one) (heading.Read other) same = absurd (never-right same)
+heading-told (heading.Refused one) (heading.Refused other) same = ap heading.Refused (same-wrong same)
+
+order-told : Injective asOrder
+order-told (order.Read one) (order.Read other) same = ap order.Read (same-right same)
+order-told (order.Read one) (order.Refused other) same = absurd (never-right (sym same))
+order-told (order.Refused one) (order.Read other) same = absurd (never-right same)
+order-told (order.Refused one) (order.Refused other) same = ap order.Refused (same-wrong same)
+
+load-told : Injective asLoad
+load-told (load.Read one) (load.Read other) same = ap load.Read (same-right same)
+load-told (load.Read one) (load.Refused other) same = absurd (never-right (sym same))
+load-told (load.Refused one) (load.Read other) same = absurd (never-right same)
+load-told (load.Refused one) (load.Refused other) same = ap load.Refused (same-wrong same)
+
+-- 1d: each public function's contract admits a single outcome; of a returned part it gives the contents
+pub line-end-single : (text : List ℕ) (at : ℕ) → Single (λ end. end ≡ pastLine text at)
+line-end-single text at = single-value (pastLine text at)
+
+pub line-at-single : (text : List ℕ) (at : ℕ) → Single (λ line. line ≡ lineAt text at)
+line-at-single text at = single-value (lineAt text at)
+
+pub field-count-single : (line : List ℕ) → Single (λ count. count ≡ fieldCount line)
+field-count-single line = single-value (fieldCount line)
+
+pub field-at-single : (line : List ℕ) (place : ℕ) → Single (λ text. text ≡ field place line)
+field-at-single line place = single-value (field place line)
+
+pub after-field-single : (line : List ℕ) → Single (λ rest. rest ≡ afterField line)
+after-field-single line = single-value (afterField line)
+
+pub same-bytes-single : (one other : List ℕ) → Single (λ same. same ≡ sameBytes one other)
+same-bytes-single one other = single-value (sameBytes one other)
+
+pub read-heading-single : (line : List ℕ) → Single (λ answer. asHeading answer ≡ headingOf line)
+read-heading-single line = single-answer asHeading heading-told (headingOf line)
+
+pub read-order-single : (line : List ℕ) → Single (λ answer. asOrder answer ≡ orderOf line)
+read-order-single line = single-answer asOrder order-told (orderOf line)
+
+pub read-load-single : (line : List ℕ) (count : ℕ) → Single (λ answer. asLoad answer ≡ loadOf count line)
+read-load-single line count = single-answer asLoad load-told (loadOf count line)
+
+pub write-plan-line-single :
+    (order chamber start : ℕ) (buffer : List ℕ)
+    → Single {A = Written × List ℕ}
+    (λ outcome.
+    (asLength (outcome .0) ≡ lengthOf (fitted buffer (planWritten order chamber start)))
+    × (outcome .1 ≡ bufferAfter buffer (fitted buffer (planWritten order chamber start))))
+write-plan-line-single order chamber start buffer =
+    single-writing asLength length-told (lengthOf (fitted buffer (planWritten order chamber start)))
+    (bufferAfter buffer (fitted buffer (planWritten order chamber start)))
