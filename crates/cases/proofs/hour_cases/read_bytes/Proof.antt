@@ -1,8 +1,8 @@
 -- `read_bytes` ends: a byte less is to come at each turn.
 use Prim.Native.Nat.{_-_, _≤_}
 use borrow.Author.Needs.{needs}
-use Rattle.cases.proofs.read_bytes.Statement.{statement}
-use Rattle.cases.proofs.read_bytes.Tie as tie
+use Rattle.cases.proofs.hour_cases.read_bytes.Statement.{statement}
+use Rattle.cases.proofs.hour_cases.read_bytes.Tie as tie
 
 abbrev Inv-loop : tie.InvT-loop
 Inv-loop byte₀ byte = byte ≤ 256

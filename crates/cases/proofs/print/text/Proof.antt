@@ -1,24 +1,24 @@
--- `print_text` ends: a byte less is left at each turn.
+-- `text` ends: a byte less is left at each turn.
 use Prim.Native.Nat.{_-_, _≤_}
 use borrow.Author.Needs.{needs}
 use lib.ListN.{length}
-use Rattle.cases.proofs.print_text.Statement.{statement}
-use Rattle.cases.proofs.print_text.Tie as tie
+use Rattle.cases.proofs.print.text.Statement.{statement}
+use Rattle.cases.proofs.print.text.Tie as tie
 
 abbrev Inv-loop : tie.InvT-loop
-Inv-loop text at₀ at = at ≤ length text
+Inv-loop bytes at₀ at = at ≤ length bytes
 
 abbrev μ-loop : tie.MeasureT-loop
-μ-loop text at₀ at = length text - at
+μ-loop bytes at₀ at = length bytes - at
 
 loop-holds : tie.Need-loop-holds Inv-loop μ-loop
 loop-holds c = search needs
 
-shared-slice-read-print-byte : tie.Need-shared-slice-read-print-byte Inv-loop μ-loop
-shared-slice-read-print-byte c = search needs
+shared-slice-read-byte : tie.Need-shared-slice-read-byte Inv-loop μ-loop
+shared-slice-read-byte c = search needs
 
-print-byte-requires : tie.Need-print-byte-requires Inv-loop μ-loop
-print-byte-requires c κs = search needs
+byte-requires : tie.Need-byte-requires Inv-loop μ-loop
+byte-requires c κs = search needs
 
 add-at : tie.Need-add-at Inv-loop μ-loop
 add-at c = search needs
@@ -32,15 +32,15 @@ loop-again c = search needs
 returns : tie.Need-returns Inv-loop μ-loop
 returns c = search needs
 
-pub print-text-spec : {M : Type 1} → statement M
-print-text-spec =
+pub text-spec : {M : Type 1} → statement M
+text-spec =
     tie.close
     (tie.spec
     Inv-loop
     μ-loop
     loop-holds
-    shared-slice-read-print-byte
-    print-byte-requires
+    shared-slice-read-byte
+    byte-requires
     add-at
     loop-less
     loop-again

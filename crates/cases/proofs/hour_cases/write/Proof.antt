@@ -3,8 +3,8 @@ use mathlib.Core.Path.{sym}
 use native.Mathlib.Omega.{arith}
 use borrow.Author.Needs.{needs}
 use lib.Seq.{length-take-le}
-use Rattle.cases.proofs.write.Statement.{statement}
-use Rattle.cases.proofs.write.Tie as tie
+use Rattle.cases.proofs.hour_cases.write.Statement.{statement}
+use Rattle.cases.proofs.hour_cases.write.Tie as tie
 
 array-borrow-prefix-space : tie.Need-array-borrow-prefix-space
 array-borrow-prefix-space c = search needs
