@@ -2,11 +2,11 @@
 use Prim.Native.Nat.{ℕ, _≤_, _<_}
 use mathlib.Core.Path.{_≡_}
 use mathlib.Core.Bool.{true, false}
-use mathlib.Core.Logic.{_⊎_, inl, inr}
+use mathlib.Core.Logic.{_⊎_, inl, inr, _↔_}
 use lib.Dec.{leb}
 use borrow.Author.Tests.{leb-true, leb-false, le-leb}
 use Rattle.ground.specs.Range.{within}
-use Rattle.ground.proofs.Tests.{by-test, never-both, both, first-of, second-of}
+use Rattle.ground.proofs.Tests.{by-test, never-both, not-met, both, first-of, second-of}
 
 module _ (low high number : ℕ) where
   pub within-from : low ≤ number → number ≤ high → within low high number ≡ true
@@ -25,3 +25,10 @@ module _ (low high number : ℕ) where
       (λ least.
       by-test (leb number high) (λ most. absurd (never-both (both least most) out)) (λ above. inr (leb-false _ _ above)))
       (λ below. inl (leb-false _ _ below))
+
+-- a number is outside a range exactly when it is not in it
+pub outside-exactly : (low high number : ℕ) → (within low high number ≡ false) ↔ ((low ≤ number) × (number ≤ high) → ⊥)
+outside-exactly low high number = (
+  λ out inside. never-both (within-from low high number (inside .0) (inside .1)) out,
+  λ never. not-met (λ inside. never (within-low low high number inside, within-high low high number inside)),
+)

@@ -4,6 +4,7 @@ use mathlib.Core.Path.{_≡_, refl, sym, ap, _∙_}
 use mathlib.Core.Logic.{_↔_}
 use mathlib.Core.Bool.{Bool, true, false, cond}
 use native.Mathlib.Omega.{arith}
+use Rattle.ground.proofs.Tests.{by-test}
 use Rattle.ground.specs.Refusal.{Or, wrong, right, Read, check, numberOf, _>>_}
 
 -- a value is no refusal
@@ -62,3 +63,21 @@ refused-otherwise (wrong other) number Meant means only given = (
   λ none. ap wrong (only other refl ∙ sym (none .0)),
 )
 refused-otherwise (right value) number Meant means only given = (λ e. absurd (never-right (sym e)), λ none. absurd (none .1 value (means value .0 refl)))
+
+-- A check and a value behind it.
+module _ {A : Type 0} (met : Bool) (number : ℕ) (kept : A) where
+  -- they come to the value exactly when the check is met
+  pub checked-right : (value : A) → ((check met number >> right kept) ≡ right value) ↔ ((met ≡ true) × (kept ≡ value))
+  checked-right value = (
+    λ e. let p = passed-by met number (right kept) (right value) never-right e in (p .0, same-right (p .1)),
+    λ p. after-met number (right kept) (p .0) ∙ ap right (p .1),
+  )
+
+  -- and to the check's refusal exactly when it is not
+  pub checked-wrong : (given : ℕ) → ((check met number >> right kept) ≡ wrong given) ↔ ((met ≡ false) × (given ≡ number))
+  checked-wrong given = (
+    λ e.
+        by-test met (λ passed. absurd (never-right (sym e ∙ after-met number (right kept) passed)))
+        (λ failed. (failed, same-wrong (sym e ∙ after-unmet number (right kept) failed))),
+    λ p. after-unmet number (right kept) (p .0) ∙ ap wrong (sym (p .1)),
+  )

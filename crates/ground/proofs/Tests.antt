@@ -24,3 +24,7 @@ first-of false other both = both
 pub second-of : (one other : Bool) → (one && other) ≡ true → other ≡ true
 second-of true other both = both
 second-of false other both = cc
+
+-- a test that never holds fails
+pub not-met : {met : Bool} → (met ≡ true → ⊥) → met ≡ false
+not-met {met} never = by-test met (λ passed. absurd (never passed)) (λ failed. failed)

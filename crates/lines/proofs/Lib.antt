@@ -4,6 +4,7 @@ pub mod Splitting
 pub mod Words
 pub mod Splits
 pub mod LineReading
+pub mod Faults
 pub mod WholeText
 pub mod PlanLine
 pub mod RoundTrip

@@ -1,11 +1,12 @@
 -- What this room promises, about the very definitions that its contracts cite. Each is a line over a law of this folder. Assumes nothing.
 use Prim.Native.Nat.{ℕ, _≤_, _<_}
 use mathlib.Core.Path.{_≡_, sym, ap}
-use mathlib.Core.Bool.{Bool, true}
+use mathlib.Core.Bool.{true}
 use mathlib.Core.List.{List, [], _∷_}
 use mathlib.Core.Logic.{_↔_}
 use lib.ListN.{length, take, drop}
 use Rattle.ground.specs.Refusal.{wrong, right}
+use Rattle.ground.specs.Limits.{lastHour, mostChambers, longestRun}
 use Rattle.ground.specs.Buffer.{fitted, lengthOf, bufferAfter}
 use Rattle.ground.specs.Outcome.{Injective, Single}
 use Rattle.ground.proofs.Refusal.{never-right, same-right, same-wrong}
@@ -16,15 +17,19 @@ use Rattle.hours.specs.declared.Written.{Written}
 use Rattle.hours.proofs.Promises.{length-told}
 use Rattle.lines.specs.Lines.{linesOf, lineAt, pastLine}
 use Rattle.lines.specs.Fields.{isEnded, fieldsOf, field, afterField, fieldCount, sameBytes, shapeOf}
-use Rattle.lines.specs.Reading.{headingOf, orderOf, loadOf, asHeading, asOrder, asLoad}
+use Rattle.lines.specs.Reading.{lastGrower, headingOf, orderOf, loadOf, asHeading, asOrder, asLoad}
 use Rattle.lines.specs.Writing.{InRange, planText, planWritten}
-use Rattle.lines.specs.Meaning.{joined, AreLines, Splits, HasFields}
+use Rattle.lines.specs.Meaning.{joined, AreLines, Splits, HasFields, PlainReads, HourReads, WordReads, HeadingFault, OrderFault, LoadFault}
+use Rattle.lines.specs.declared.reading.Heading.{Heading}
+use Rattle.lines.specs.declared.reading.Order.{Order}
+use Rattle.lines.specs.declared.reading.Load.{Load}
 use Rattle.lines.specs.declared.reading.HeadingRead.the-variants as heading
 use Rattle.lines.specs.declared.reading.OrderRead.the-variants as order
 use Rattle.lines.specs.declared.reading.LoadRead.the-variants as load
 use Rattle.lines.proofs.WholeText as whole
 use Rattle.lines.proofs.Words as words
 use Rattle.lines.proofs.Splits as splits
+use Rattle.lines.proofs.Faults as faults
 use Rattle.lines.proofs.PlanLine as plan
 use Rattle.lines.proofs.RoundTrip as back
 
@@ -54,6 +59,45 @@ splits-exactly = splits.splits-exactly
 
 pub has-fields : (count : ℕ) (line : List ℕ) → (shapeOf count line ≡ right tt) ↔ HasFields count line
 has-fields = splits.has-fields
+
+-- 1b: a list's first line is refused by a number exactly when its first fault has that number, and its values are what its fields read as
+pub heading-fault : (line : List ℕ) (number : ℕ) → (headingOf line ≡ wrong number) ↔ HeadingFault line number
+heading-fault = faults.heading-fault
+
+pub heading-reads :
+    (line : List ℕ) (values : Heading)
+    → (headingOf line ≡ right values)
+    ↔ (HasFields 3 line
+    × WordReads (field 0 line) 0
+    × PlainReads 1 mostChambers (field 1 line) (values .chambers)
+    × HourReads 1 longestRun (field 2 line) (values .run))
+heading-reads = faults.heading-reads
+
+-- 1b: the same of an order line
+pub order-fault : (line : List ℕ) (number : ℕ) → (orderOf line ≡ wrong number) ↔ OrderFault line number
+order-fault = faults.order-fault
+
+pub order-reads :
+    (line : List ℕ) (values : Order)
+    → (orderOf line ≡ right values)
+    ↔ (HasFields 3 line
+    × PlainReads 1 lastGrower (field 0 line) (values .grower)
+    × HourReads 0 lastHour (field 1 line) (values .ready)
+    × HourReads 0 lastHour (field 2 line) (values .due))
+order-reads = faults.order-reads
+
+-- 1b: and of a plan line for a list with so many chambers
+pub load-fault : (count : ℕ) (line : List ℕ) (number : ℕ) → (loadOf count line ≡ wrong number) ↔ LoadFault count line number
+load-fault = faults.load-fault
+
+pub load-reads :
+    (count : ℕ) (line : List ℕ) (values : Load)
+    → (loadOf count line ≡ right values)
+    ↔ (HasFields 3 line
+    × PlainReads 0 9999 (field 0 line) (values .order)
+    × PlainReads 1 count (field 1 line) (values .chamber)
+    × HourReads 0 lastHour (field 2 line) (values .start))
+load-reads = faults.load-reads
 
 -- two texts are the same byte for byte exactly when they are one
 pub same-exactly : (one other : List ℕ) → (sameBytes one other ≡ true) ↔ (one ≡ other)
