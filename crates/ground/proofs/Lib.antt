@@ -4,4 +4,5 @@ pub mod Range
 pub mod Refusal
 pub mod Digits
 pub mod Buffer
+pub mod Writing
 pub mod Outcome

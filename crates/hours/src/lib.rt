@@ -6,7 +6,6 @@ ghost use mathlib.Core.List.{_∷_, _++_};
 ghost use Prim.Native.Nat.{_-_, _/_, _≤_};
 ghost use lib.ListN.{length, take};
 ghost use lib.Dec.{leb};
-ghost use Rattle.ground.specs.Limits.{lastHour};
 ghost use Rattle.ground.specs.Digits.{spelled, lastDigits};
 ghost use Rattle.ground.specs.Buffer.{fitted, lengthOf, bufferAfter};
 ghost use Rattle.hours.specs.Spelling.{inHundredths};
@@ -235,11 +234,11 @@ fn check(met: bool, number: u32, rest: u32) -> u32
     if met { rest } else { number }
 }
 
-// The refusal of an hour whose text has this length, to be written where there is this room; 0 is none.
-fn refusal_of(hour: u32, length: usize, room: usize) -> u32
-    ensures { λ r. ⌜ r ≡ cond (leb hour lastHour) (cond (leb length room) 0 7) 4 ⌝ }
+// The refusal of a text of this length, to be written where there is this room: 4 where its numbers are out of range, then 7; 0 is none.
+pub fn writing_refusal(in_range: bool, length: usize, room: usize) -> u32
+    ensures { λ r. ⌜ r ≡ cond «in_range» (cond (leb length room) 0 7) 4 ⌝ }
 {
-    check(hour <= LAST_HOUR, 4, check(length <= room, 7, 0))
+    check(in_range, 4, check(length <= room, 7, 0))
 }
 
 // Fills a buffer with an hour's text: two digits at its end, the comma before them, and the whole hours in the rest.
@@ -262,7 +261,7 @@ pub fn write_hour(hour: u32, buffer: &mut [u8]) -> Written
 {
     let room = buffer.len();
     let length = digit_count(hour / 100) + 3;
-    let refusal = refusal_of(hour, length, room);
+    let refusal = writing_refusal(hour <= LAST_HOUR, length, room);
     if refusal != 0 {
         return Written::Refused(refusal);
     }

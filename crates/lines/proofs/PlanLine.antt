@@ -1,24 +1,24 @@
 -- Laws of a plan line's text and of what is written of it. Assumes nothing.
 use Prim.Native.Nat.{ℕ, _+_, _-_, _≤_, _<_}
-use mathlib.Core.Path.{_≡_, refl, sym, ap, _∙_}
+use mathlib.Core.Path.{_≡_, refl, sym, _∙_}
 use mathlib.Core.Bool.{Bool, true, false, _&&_}
 use mathlib.Core.List.{List, [], _∷_, _++_, append-assoc}
-use mathlib.Core.Logic.{_↔_}
+use mathlib.Core.Logic.{_↔_, Iff·trans}
 use lib.ListN.{length, take, drop, set, length-append, length-drop}
 use lib.Seq.{length-take-le}
 use lib.Dec.{leb}
 use native.Mathlib.Omega.{arith}
-use borrow.Author.Tests.{leb-true, leb-false, le-leb, lt-leb}
+use borrow.Author.Tests.{leb-true, le-leb}
 use borrow.Rule.Slice.PartMut.{putMid, midOf, mid-len}
-use Rattle.ground.specs.Refusal.{Read, right, wrong, check, _>>=_, _>>_}
+use Rattle.ground.specs.Refusal.{right, wrong, check, _>>=_, _>>_}
 use Rattle.ground.specs.Range.{within}
 use Rattle.ground.specs.Limits.{lastHour, mostChambers}
 use Rattle.ground.specs.Digits.{spelled}
 use Rattle.ground.specs.Buffer.{onto, fitted, lengthOf}
-use Rattle.ground.proofs.Tests.{by-test, never-both, both, first-of, second-of}
+use Rattle.ground.proofs.Tests.{by-test, never-both, not-met, both, first-of, second-of}
 use Rattle.ground.proofs.Range.{within-from, within-low, within-high}
-use Rattle.ground.proofs.Refusal.{never-right, same-right, same-wrong, after-met, after-unmet, passed-by, unmet-by}
-use Rattle.ground.proofs.Buffer.{length-wrong, onto-all, onto-byte, onto-part}
+use Rattle.ground.proofs.Writing as writing
+use Rattle.ground.proofs.Buffer.{onto-all, onto-byte, onto-part}
 use Rattle.hours.specs.Classes.{comma}
 use Rattle.hours.specs.Writing.{hourText, hourWritten}
 use Rattle.lines.specs.Lines.{lineEnd}
@@ -105,21 +105,15 @@ pub text-in-two :
 unfolding planText
 text-in-two order chamber start = simp append-assoc
 
--- the checks of a writing in their order: the three ranges, then the room
-pub checks-in-order :
-    (order chamber start : ℕ) (buffer : List ℕ)
-    → fitted buffer (planWritten order chamber start)
-    ≡ (check (inRange order chamber start) 4
-    >> (check (leb (length (planText order chamber start)) (length buffer)) 7 >> right (planText order chamber start)))
-unfolding fitted planWritten hourWritten
-checks-in-order order chamber start buffer =
+-- what is to be written: the text where the three numbers are in range
+pub tested : (order chamber start : ℕ) → planWritten order chamber start ≡ (check (inRange order chamber start) 4 >> right (planText order chamber start))
+unfolding planWritten hourWritten
+tested order chamber start =
     go (within firstOrderLine lastOrderLine order) (within 1 mostChambers chamber) (leb start lastHour) (hourText comma start) (planText order chamber start)
   where
     go :
         (ordered housed timed : Bool) (hour text : List ℕ)
-        → (check ordered 4 >> (check housed 4 >> (check timed 4 >> right hour >>= λ hour. right text)) >>= λ text.
-        check (leb (length text) (length buffer)) 7 >> right text)
-        ≡ (check (ordered && housed && timed) 4 >> (check (leb (length text) (length buffer)) 7 >> right text))
+        → (check ordered 4 >> (check housed 4 >> (check timed 4 >> right hour >>= λ hour. right text))) ≡ (check (ordered && housed && timed) 4 >> right text)
     go false housed timed hour text = refl
     go true false timed hour text = refl
     go true true false hour text = refl
@@ -149,63 +143,31 @@ module _ (order chamber start : ℕ) where
       (le-leb _ _ (ranged .start-hour))
 
   module _ (buffer : List ℕ) where
-    -- the text to be written
-    abbrev text : List ℕ
-    text = planText order chamber start
-
-    -- what is left to check where the numbers are in range
-    abbrev room : Read (List ℕ)
-    room = check (leb (length text) (length buffer)) 7 >> right text
-
-    -- a writing that is not refused by 4 is of numbers in range, and goes by its room
-    ranged-else :
-        (result : Read (List ℕ)) → (wrong 4 ≡ result → ⊥) → fitted buffer (planWritten order chamber start) ≡ result
-        → InRange order chamber start × (room ≡ result)
-    ranged-else result other e =
-        let p = passed-by (inRange order chamber start) 4 room result other (sym (checks-in-order order chamber start buffer) ∙ e) in
-        (ranges-hold (p .0), p .1)
-
-    -- and one that is not refused by 7 either has its room
-    roomy-else : (result : Read (List ℕ)) → (wrong 7 ≡ result → ⊥) → room ≡ result → (length text ≤ length buffer) × (right text ≡ result)
-    roomy-else result other e = let p = passed-by (leb (length text) (length buffer)) 7 (right text) result other e in (leb-true _ _ (p .0), p .1)
-
     -- 4 exactly when order line, chamber or start is out of its range
     pub refused-by-four : (lengthOf (fitted buffer (planWritten order chamber start)) ≡ wrong 4) ↔ (InRange order chamber start → ⊥)
-    refused-by-four = (
-      λ refused ranged.
-          never-both (ranges-pass ranged)
-          (unmet-by (inRange order chamber start) 4 room
-          (λ e. never-right (sym (roomy-else (wrong 4) (λ same. omega (arith, same-wrong same)) e .1)))
-          (sym (checks-in-order order chamber start buffer) ∙ length-wrong _ 4 refused)),
-      λ outside.
-          by-test (inRange order chamber start) (λ passed. absurd (outside (ranges-hold passed)))
-          (λ failed. ap lengthOf (checks-in-order order chamber start buffer ∙ after-unmet 4 room failed)),
-    )
+    refused-by-four =
+        Iff·trans
+        (writing.refused-by-four (inRange order chamber start) (planText order chamber start) buffer (planWritten order chamber start)
+        (tested order chamber start))
+        (λ failed ranged. never-both (ranges-pass ranged) failed, λ outside. not-met (λ passed. outside (ranges-hold passed)))
 
     -- 7 exactly when the numbers are in range and the text has no room
     pub refused-by-seven :
         (lengthOf (fitted buffer (planWritten order chamber start)) ≡ wrong 7)
         ↔ (InRange order chamber start × (length buffer < length (planText order chamber start)))
-    refused-by-seven = (
-      λ refused.
-          let p = ranged-else (wrong 7) (λ same. omega (arith, same-wrong same)) (length-wrong _ 7 refused) in
-          (p .0, leb-false _ _ (unmet-by (leb (length text) (length buffer)) 7 (right text) (λ e. never-right (sym e)) (p .1))),
-      λ facts.
-          ap lengthOf
-          (checks-in-order order chamber start buffer ∙ after-met 4 room (ranges-pass (facts .0)) ∙ after-unmet 7 (right text) (lt-leb _ _ (facts .1))),
-    )
+    refused-by-seven =
+        Iff·trans
+        (writing.refused-by-seven (inRange order chamber start) (planText order chamber start) buffer (planWritten order chamber start)
+        (tested order chamber start))
+        (λ facts. (ranges-hold (facts .0), facts .1), λ facts. (ranges-pass (facts .0), facts .1))
 
     -- the text is written exactly when the numbers are in range and there is room
     pub written-exactly :
         (bytes : List ℕ)
         → (fitted buffer (planWritten order chamber start) ≡ right bytes)
         ↔ (InRange order chamber start × (length (planText order chamber start) ≤ length buffer) × (bytes ≡ planText order chamber start))
-    written-exactly bytes = (
-      λ done.
-          let p = ranged-else (right bytes) (λ same. never-right same) done in
-          let q = roomy-else (right bytes) (λ same. never-right same) (p .1) in
-          (p .0, q .0, sym (same-right (q .1))),
-      λ facts.
-          checks-in-order order chamber start buffer ∙ after-met 4 room (ranges-pass (facts .0)) ∙ after-met 7 (right text) (le-leb _ _ (facts .1))
-          ∙ ap right (sym (facts .2)),
-    )
+    written-exactly bytes =
+        Iff·trans
+        (writing.written-exactly (inRange order chamber start) (planText order chamber start) buffer (planWritten order chamber start)
+        (tested order chamber start) bytes)
+        (λ facts. (ranges-hold (facts .0), facts .1, facts .2), λ facts. (ranges-pass (facts .0), facts .1, facts .2))

@@ -1,11 +1,9 @@
 // A plan line written to a lent buffer, from its three numbers: order line, chamber and start.
 // Any numbers and any buffer may come. Assumes nothing.
 ghost use mathlib.Core.Path.{_≡_};
-ghost use mathlib.Core.Bool.{cond};
 ghost use mathlib.Core.List.{[], _∷_, _++_};
 ghost use Prim.Native.Nat.{_+_, _≤_};
 ghost use lib.ListN.{length};
-ghost use lib.Dec.{leb};
 ghost use Rattle.ground.specs.Range.{within};
 ghost use Rattle.ground.specs.Limits.{lastHour};
 ghost use Rattle.ground.specs.Digits.{spelled};
@@ -22,6 +20,7 @@ use hours::Written;
 use hours::digit_count;
 use hours::put_digits;
 use hours::write_hour;
+use hours::writing_refusal;
 
 // The first line that an order can stand on: line 1 is no order.
 const FIRST_ORDER_LINE: u32 = 2;
@@ -43,20 +42,6 @@ fn in_range(order: u32, chamber: u32, start: u32) -> bool
     let order_fits = within(FIRST_ORDER_LINE, LAST_ORDER_LINE, order);
     let chamber_fits = within(1, MOST_CHAMBERS, chamber);
     order_fits & chamber_fits & (start <= LAST_HOUR)
-}
-
-// A check's number where it is not met, else what the checks after it come to; 0 is no refusal.
-fn check(met: bool, number: u32, rest: u32) -> u32
-    ensures { λ r. ⌜ r ≡ cond met rest number ⌝ }
-{
-    if met { rest } else { number }
-}
-
-// The refusal of a plan line whose text has this length, to be written where there is this room; 0 is none.
-fn refusal_of(ranged: bool, length: usize, room: usize) -> u32
-    ensures { λ r. ⌜ r ≡ cond ranged (cond (leb length room) 0 7) 4 ⌝ }
-{
-    check(ranged, 4, check(length <= room, 7, 0))
 }
 
 // How many bytes a plan line has: three numbers, two tabs, the comma and two digits of the start, and the line end.
@@ -118,7 +103,7 @@ pub fn write_plan_line(order: u32, chamber: u32, start: u32, buffer: &mut [u8]) 
 {
     let room = buffer.len();
     let length = text_length(order, chamber, start);
-    let refusal = refusal_of(in_range(order, chamber, start), length, room);
+    let refusal = writing_refusal(in_range(order, chamber, start), length, room);
     if refusal != 0 {
         return Written::Refused(refusal);
     }

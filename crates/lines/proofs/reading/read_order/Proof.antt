@@ -48,7 +48,7 @@ read-as c =
     let line = c .before .before .before .before .before .before .before .args .line .now in
     made-of-line line (plainWithin 1 lastGrower (field 0 line)) (hourOf comma (field 1 line)) (hourOf comma (field 2 line)) made (asThree (c .three-of .result))
     (shape-tested line (sym (c .before .before .before .before .before .is-misshapen .ensures) ∙ c .before .before .before .before .if1 .left))
-    (c .three-of .ensures ∙ rw (c .before .plain-at .ensures, c .before .before .before .hour-at .ensures, c .before .before .hour-at2 .ensures, any-hour, any-hour))
+    (c .three-of .ensures ∙ rw (c .before .plain-at .ensures, c .before .before .before .hour-at .ensures, c .before .before .hour-at2 .ensures, any-hour (field 1 line), any-hour (field 2 line)))
 
 returns-2 : tie.Need-returns-2
 unfolding made

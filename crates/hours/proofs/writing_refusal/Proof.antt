@@ -1,12 +1,12 @@
--- `refusal_of` is the number that its checks come to, whichever way the two tests go.
+-- `writing_refusal` is the number that its checks come to, whichever way the two tests go.
 use Prim.Native.Nat.{ℕ}
 use mathlib.Core.Path.{_≡_, refl}
 use mathlib.Core.Bool.{Bool, true, false, cond}
 use lib.Dec.{leb}
 use native.Mathlib.Omega.{arith}
 use borrow.Author.Needs.{needs}
-use Rattle.lines.proofs.writing.refusal_of.Statement.{statement}
-use Rattle.lines.proofs.writing.refusal_of.Tie as tie
+use Rattle.hours.proofs.writing_refusal.Statement.{statement}
+use Rattle.hours.proofs.writing_refusal.Tie as tie
 
 -- what the checks come to: 0 with both tests passed, 7 where only the room is short, 4 out of range, whatever the room
 told :
@@ -25,10 +25,10 @@ check-requires-2 c κs = search needs
 returns : tie.Need-returns
 returns c =
     let s = c .before .before in
-    told (s .args .ranged) (leb (s .args .length) (s .args .room)) (c .check2 .result)
+    told (s .args .in-range) (leb (s .args .length) (s .args .room)) (c .check2 .result)
     (λ ranged fits. simp (c .check2 .ensures, c .before .check .ensures, ranged, fits) (omega arith))
     (λ ranged fits. simp (c .check2 .ensures, c .before .check .ensures, ranged, fits) (omega arith))
     (λ outside. simp (c .check2 .ensures, outside) (omega arith))
 
-pub refusal-of-spec : {M : Type 1} → statement M
-refusal-of-spec = tie.close (tie.spec check-requires check-requires-2 returns)
+pub writing-refusal-spec : {M : Type 1} → statement M
+writing-refusal-spec = tie.close (tie.spec check-requires check-requires-2 returns)
