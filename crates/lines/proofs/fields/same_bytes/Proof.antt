@@ -16,7 +16,7 @@ abbrev μ-loop : tie.MeasureT-loop
 μ-loop one other at₀ at = length one - at
 
 returns : tie.Need-returns Inv-loop μ-loop
-returns c = sym (lengths-differ _ _ (c .if1 .taken))
+returns c = let a = c .before .args in sym (lengths-differ (a .one .now) (a .other .now) (λ same. omega arith))
 
 loop-holds : tie.Need-loop-holds Inv-loop μ-loop
 loop-holds c = search needs

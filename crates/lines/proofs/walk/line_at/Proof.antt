@@ -24,7 +24,7 @@ slice-aggregate-result : tie.Need-slice-aggregate-result
 slice-aggregate-result c = search needs
 
 returns-2 : tie.Need-returns-2
-returns-2 c = line-none _ _ (rw (c .before .before .line-end .ensures) at (c .before .if1 .left))
+returns-2 c = let a = c .before .before .before .before .args in line-none (a .text .now) (a .at) (omega (arith, c .before .before .line-end .ensures))
 
 pub line-at-spec : {M : Type 1} → statement M
 line-at-spec =
