@@ -9,6 +9,7 @@ use lib.Dec.{ltb}
 use native.Mathlib.Nat.{pow-suc}
 use native.Mathlib.Omega.{arith}
 use borrow.Author.Tests.{ltb-true, ltb-false, lt-ltb, le-ltb}
+use Rattle.ground.specs.Limits.{lastPlain}
 use Rattle.ground.specs.Digits.{isDigit, digitOf, allDigits, valueAfter, valueOf, Plain, lastDigit, lastDigits, spelledWithin, spelled}
 use Rattle.ground.proofs.Range.{within-from, within-low, within-high}
 use Rattle.ground.proofs.Tests.{by-test, both, first-of, second-of}
@@ -137,7 +138,7 @@ spelled-first =
     rw (spelled-more number large, List·getD-append (spelled (number / 10)) _ 0 0 (spelled-some (number / 10))) (before (omega arith)))
 
 -- so a number of up to four digits is spelled plainly
-pub spelled-plain : (number : ℕ) → number ≤ 9999 → Plain (spelled number)
+pub spelled-plain : (number : ℕ) → number ≤ lastPlain → Plain (spelled number)
 spelled-plain number small =
     record {
       digits = spelled-digits number;
@@ -239,7 +240,7 @@ value-at-most before high (byte ∷ word) below all =
     value-at-most (before * 10 + digitOf byte) (high * 10 + 9) word (omega (arith, digit-high byte (first-of (isDigit byte) (allDigits word) all)))
     (second-of (isDigit byte) (allDigits word) all)
 
-four-nines : (count : ℕ) → count ≤ 4 → nines 0 count ≤ 9999
+four-nines : (count : ℕ) → count ≤ 4 → nines 0 count ≤ lastPlain
 unfolding nines
 four-nines zero few = omega arith
 four-nines (suc zero) few = omega arith
@@ -249,7 +250,7 @@ four-nines (suc (suc (suc (suc zero)))) few = omega arith
 four-nines (suc (suc (suc (suc (suc count))))) few = absurd (omega arith)
 
 -- a plain word is worth at most four nines
-pub plain-worth : (word : List ℕ) → Plain word → valueOf word ≤ 9999
+pub plain-worth : (word : List ℕ) → Plain word → valueOf word ≤ lastPlain
 unfolding valueOf
 plain-worth word plain = omega (arith, value-at-most 0 0 word (omega arith) (plain .digits), four-nines (length word) (plain .most))
 

@@ -9,6 +9,10 @@ lastHour = 999_999
 abbrev pub mostChambers : ℕ
 mostChambers = 8
 
+-- "Plain numbers have one to four digits": the last of them
+abbrev pub lastPlain : ℕ
+lastPlain = 9_999
+
 -- "the run in hours (1 to 9,999 hundredths)"
 abbrev pub longestRun : ℕ
 longestRun = 9_999

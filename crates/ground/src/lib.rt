@@ -7,6 +7,9 @@ pub const LAST_HOUR: u32 = 999_999;
 // How many chambers there can be.
 pub const MOST_CHAMBERS: u32 = 8;
 
+// The last plain number, of four digits.
+pub const LAST_PLAIN: u32 = 9_999;
+
 // The longest run, in hundredths.
 pub const LONGEST_RUN: u32 = 9_999;
 

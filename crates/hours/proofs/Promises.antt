@@ -1,7 +1,8 @@
 -- What this room promises, about the very definitions that its contracts cite, at the comma. Each is a line over a law of this folder. Assumes nothing.
 use Prim.Native.Nat.{ℕ, _≤_, _<_}
 use mathlib.Core.Path.{_≡_, refl, sym, ap}
-use mathlib.Core.Bool.{true}
+use mathlib.Core.Bool.{Bool, true, cond}
+use lib.Dec.{leb}
 use mathlib.Core.List.{List}
 use mathlib.Core.Logic.{_↔_}
 use lib.ListN.{length, take, drop}
@@ -119,6 +120,9 @@ digit-count-single number = single-value (length (spelled number))
 
 pub put-digits-single : (number : ℕ) (buffer : List ℕ) → Single (λ held. held ≡ lastDigits (length buffer) number)
 put-digits-single number buffer = single-value (lastDigits (length buffer) number)
+
+pub writing-refusal-single : (ranged : Bool) (length room : ℕ) → Single (λ (number : ℕ). number ≡ cond ranged (cond (leb length room) 0 7) 4)
+writing-refusal-single ranged length room = single-value (cond ranged (cond (leb length room) 0 7) 4)
 
 pub write-hour-single :
     (hour : ℕ) (buffer : List ℕ)

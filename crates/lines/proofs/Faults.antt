@@ -8,7 +8,7 @@ use lib.ListN.{length}
 use lib.Dec.{eqb}
 use Rattle.ground.specs.Refusal.{Read, wrong, right, _>>=_, _>>_}
 use Rattle.ground.specs.Range.{within}
-use Rattle.ground.specs.Limits.{lastHour, mostChambers, longestRun}
+use Rattle.ground.specs.Limits.{lastHour, mostChambers, longestRun, lastPlain}
 use Rattle.ground.specs.Digits.{valueOf}
 use Rattle.ground.proofs.Refusal.{never-right, same-right, same-wrong, checked-right, checked-wrong}
 use Rattle.ground.proofs.Range.{within-from, within-low, within-high, outside-exactly}
@@ -17,7 +17,7 @@ use Rattle.hours.specs.Classes.{comma}
 use Rattle.hours.specs.Reading.{hourOf, plainOf}
 use Rattle.hours.proofs.Promises.{reads-exactly, refused-by-three, plain-exactly, refused-by-two}
 use Rattle.lines.specs.Fields.{isEnded, fieldsOf, field, sameBytes, shapeOf}
-use Rattle.lines.specs.Reading.{lastGrower, steam, steamAt, ranged, plainWithin, hourWithin, headingOf, orderOf, loadOf, threeOf}
+use Rattle.lines.specs.Reading.{lastGrower, steam, steamAt, ranged, plainWithin, hourWithin, headingOf, orderOf, loadOf}
 use Rattle.lines.specs.Meaning.{HasFields, PlainReads, PlainFault, HourReads, HourFault, WordReads, WordFault, LineFault, HeadingFault, OrderFault, LoadFault}
 use Rattle.lines.specs.Meaning.PlainFault.{unread as no-plain, outside as plain-outside}
 use Rattle.lines.specs.Meaning.HourFault.{unread as no-hour, outside as hour-outside}
@@ -27,6 +27,7 @@ use Rattle.lines.specs.declared.reading.Heading.{Heading}
 use Rattle.lines.specs.declared.reading.Order.{Order}
 use Rattle.lines.specs.declared.reading.Load.{Load}
 use Rattle.lines.specs.declared.reading.Three.{Three}
+use Rattle.lines.specs.Steps.{threeOf}
 use Rattle.lines.proofs.Words.{same-exactly}
 use Rattle.lines.proofs.Splits.{has-fields}
 use Rattle.lines.proofs.LineReading.{any-hour, any-plain}
@@ -247,8 +248,8 @@ pub word-goes : (text : List ℕ) → GoesBy (steamAt text) (WordReads text) (Wo
 word-goes text = record { reads = word-reads text; faults = word-fault text }
 
 -- a number or an hour with no range of its own goes by the range of all of them
-pub any-plain-goes : (text : List ℕ) → GoesBy (plainOf text) (PlainReads 0 9999 text) (PlainFault 0 9999 text)
-any-plain-goes text = rw any-plain at (plain-goes 0 9999 text)
+pub any-plain-goes : (text : List ℕ) → GoesBy (plainOf text) (PlainReads 0 lastPlain text) (PlainFault 0 lastPlain text)
+any-plain-goes text = rw any-plain at (plain-goes 0 lastPlain text)
 
 pub any-hour-goes : (text : List ℕ) → GoesBy (hourOf comma text) (HourReads 0 lastHour text) (HourFault 0 lastHour text)
 any-hour-goes text = rw any-hour at (hour-goes 0 lastHour text)
@@ -386,7 +387,7 @@ module _ (count : ℕ) (line : List ℕ) where
   pub load-reads :
       (values : Load)
       → (loadOf count line ≡ right values)
-      ↔ (HasFields 3 line × PlainReads 0 9999 (field 0 line) (values .order) × PlainReads 1 count (field 1 line) (values .chamber)
+      ↔ (HasFields 3 line × PlainReads 0 lastPlain (field 0 line) (values .order) × PlainReads 1 count (field 1 line) (values .chamber)
       × HourReads 0 lastHour (field 2 line) (values .start))
   unfolding loadOf
   load-reads values =

@@ -8,15 +8,16 @@ use lib.Dec.{eqb}
 use native.Mathlib.Omega.{arith}
 use borrow.Author.Tests.{eq-eqb, ne-eqb, eqb-true, eqb-false, not-true, not-false}
 use Rattle.ground.specs.Refusal.{Read, wrong, right, check, _>>=_, _>>_}
-use Rattle.ground.specs.Limits.{lastHour}
+use Rattle.ground.specs.Limits.{lastHour, lastPlain}
 use Rattle.ground.proofs.Range.{within-from}
 use Rattle.ground.proofs.Digits.{plain-worth}
 use Rattle.hours.specs.Classes.{comma}
 use Rattle.hours.specs.Reading.{hourOf, plainOf}
 use Rattle.hours.proofs.Promises.{read-at-most, plain-exactly}
 use Rattle.lines.specs.Fields.{isEnded, fieldsOf, fieldCount, shapeOf}
-use Rattle.lines.specs.Reading.{ranged, plainWithin, hourWithin, threeOf}
+use Rattle.lines.specs.Reading.{ranged, plainWithin, hourWithin}
 use Rattle.lines.specs.declared.reading.Three.{Three}
+use Rattle.lines.specs.Steps.{threeOf}
 
 -- a line has the shape exactly when it has that many fields, of which there is always one
 module _ (count : ℕ) (line : List ℕ) where
@@ -65,15 +66,15 @@ any-hour text = go (hourOf comma text) refl
     go (wrong number) e = refl
     go (right hour) e = rw (within-from 0 lastHour hour (omega arith) (read-at-most text hour e))
 
-pub any-plain : (text : List ℕ) → plainWithin 0 9999 text ≡ plainOf text
+pub any-plain : (text : List ℕ) → plainWithin 0 lastPlain text ≡ plainOf text
 unfolding plainWithin ranged
 any-plain text = go (plainOf text) refl
   where
-    go : (read : Read ℕ) → plainOf text ≡ read → (read >>= λ number. ranged 0 9999 number) ≡ read
+    go : (read : Read ℕ) → plainOf text ≡ read → (read >>= λ number. ranged 0 lastPlain number) ≡ read
     go (wrong number) e = refl
     go (right number) e =
         let p = plain-exactly text number .0 e in
-        rw (within-from 0 9999 number (omega arith) (omega (arith, plain-worth text (p .0), p .1)))
+        rw (within-from 0 lastPlain number (omega arith) (omega (arith, plain-worth text (p .0), p .1)))
 
 -- a line of the right shape is what its three fields are made into
 pub made-of-line :

@@ -6,7 +6,7 @@ use mathlib.Core.List.{List, [], _∷_}
 use mathlib.Core.Logic.{_↔_}
 use lib.ListN.{length, take, drop}
 use Rattle.ground.specs.Refusal.{wrong, right}
-use Rattle.ground.specs.Limits.{lastHour, mostChambers, longestRun}
+use Rattle.ground.specs.Limits.{lastHour, mostChambers, longestRun, lastPlain}
 use Rattle.ground.specs.Buffer.{fitted, lengthOf, bufferAfter}
 use Rattle.ground.specs.Outcome.{Injective, Single}
 use Rattle.ground.proofs.Refusal.{never-right, same-right, same-wrong}
@@ -94,7 +94,7 @@ pub load-reads :
     (count : ℕ) (line : List ℕ) (values : Load)
     → (loadOf count line ≡ right values)
     ↔ (HasFields 3 line
-    × PlainReads 0 9999 (field 0 line) (values .order)
+    × PlainReads 0 lastPlain (field 0 line) (values .order)
     × PlainReads 1 count (field 1 line) (values .chamber)
     × HourReads 0 lastHour (field 2 line) (values .start))
 load-reads = faults.load-reads

@@ -7,7 +7,7 @@ use lib.ListN.{length, take}
 use native.Mathlib.Omega.{arith}
 use borrow.Author.Tests.{ne-eqb}
 use Rattle.ground.specs.Refusal.{right}
-use Rattle.ground.specs.Limits.{mostChambers}
+use Rattle.ground.specs.Limits.{mostChambers, lastPlain}
 use Rattle.ground.specs.Digits.{isDigit, allDigits, lastDigit, spelled}
 use Rattle.ground.specs.Buffer.{fitted, lengthOf, bufferAfter}
 use Rattle.ground.proofs.Tests.{both, first-of, second-of}
@@ -74,7 +74,7 @@ module _ (order chamber start : ℕ) where
   text-fields = rw text-tabbed (fields-of-tabbed numbers (omega arith) numbers-clean .1)
 
 -- a spelled number reads as itself
-plain-back : (number : ℕ) → number ≤ 9999 → plainOf (spelled number) ≡ right number
+plain-back : (number : ℕ) → number ≤ lastPlain → plainOf (spelled number) ≡ right number
 plain-back number small = plain-exactly (spelled number) number .1 (spelled-plain number small, sym (spelled-worth number))
 
 module _ (order chamber start count : ℕ) (range : InRange order chamber start) (admitted : chamber ≤ count) where

@@ -15,7 +15,8 @@ use Rattle.hours.specs.Classes.{comma, classOf}
 use Rattle.hours.specs.declared.Class.{Class}
 use Rattle.hours.specs.declared.Class.the-variants.{Digit, Mark, Tab, LineEnd, Foreign}
 use Rattle.lines.specs.Lines.{lineEnd, before}
-use Rattle.lines.specs.Fields.{tab, isNone, isEnded, fieldsOf, field, afterField, endsField, endsLine, tabsIn}
+use Rattle.lines.specs.Fields.{tab, isNone, isEnded, fieldsOf, field, afterField}
+use Rattle.lines.specs.Steps.{endsField, endsLine, tabsIn}
 
 -- a class that neither ends a field nor counts as a tab
 record Plain (class : Class) : Type 0 where

@@ -5,8 +5,6 @@ use mathlib.Core.List.{List, [], _∷_}
 use lib.ListN.{length, getD}
 use lib.Dec.{eqb}
 use Rattle.ground.specs.Refusal.{Read, check}
-use Rattle.hours.specs.declared.Class.{Class}
-use Rattle.hours.specs.declared.Class.the-variants.{Digit, Mark, Tab, LineEnd, Foreign}
 use Rattle.lines.specs.Lines.{lineEnd, before}
 
 -- "`→` stands for one tab (byte 9)"
@@ -51,25 +49,3 @@ fieldCount line = cond (isEnded line) (length (fieldsOf line)) 0
 -- 1: "line not ended, not three fields", for any count of fields
 unfoldable pub shapeOf : ℕ → List ℕ → Read (Unit {0})
 shapeOf count line = check (isEnded line && eqb (length (fieldsOf line)) count) 1
-
--- what a byte's class means to a line: a tab or a line end ends a field, a line end ends the line, and a tab counts
-abbrev pub endsField : Class → Bool
-endsField (Digit digit) = false
-endsField Mark = false
-endsField Tab = true
-endsField LineEnd = true
-endsField Foreign = false
-
-abbrev pub endsLine : Class → Bool
-endsLine (Digit digit) = false
-endsLine Mark = false
-endsLine Tab = false
-endsLine LineEnd = true
-endsLine Foreign = false
-
-abbrev pub tabsIn : Class → ℕ
-tabsIn (Digit digit) = 0
-tabsIn Mark = 0
-tabsIn Tab = 1
-tabsIn LineEnd = 0
-tabsIn Foreign = 0

@@ -6,7 +6,7 @@ use mathlib.Core.Bool.{Bool, true, not, _&&_}
 use mathlib.Core.List.{List, [], _∷_, _++_}
 use lib.ListN.{length}
 use lib.Dec.{eqb}
-use Rattle.ground.specs.Limits.{lastHour, mostChambers, longestRun}
+use Rattle.ground.specs.Limits.{lastHour, mostChambers, longestRun, lastPlain}
 use Rattle.ground.specs.Digits.{Plain, valueOf}
 use Rattle.hours.specs.Classes.{comma}
 use Rattle.hours.specs.Spelling.{Spells}
@@ -112,5 +112,5 @@ OrderFault line =
 
 abbrev pub LoadFault : ℕ → List ℕ → ℕ → Type 0
 LoadFault count line =
-    LineFault line (PlainReads 0 9999 (field 0 line)) (PlainFault 0 9999 (field 0 line)) (PlainReads 1 count (field 1 line))
+    LineFault line (PlainReads 0 lastPlain (field 0 line)) (PlainFault 0 lastPlain (field 0 line)) (PlainReads 1 count (field 1 line))
     (PlainFault 1 count (field 1 line)) (HourFault 0 lastHour (field 2 line))

@@ -1,26 +1,22 @@
 -- How the lines of lists and plans are read: "A line: 1 first, then its fields from the left, each 2 or 3 and then 4." Assumes nothing.
 use Prim.Native.Nat.{ℕ}
-use mathlib.Core.List.{List, [], _∷_}
+use mathlib.Core.List.{List}
 use Rattle.ground.specs.Refusal.{Read, wrong, right, check, _>>=_, _>>_}
 use Rattle.ground.specs.Range.{within}
 use Rattle.ground.specs.Limits.{mostChambers, longestRun}
+use Rattle.ground.specs.Text.{bytes}
 use Rattle.hours.specs.Classes.{comma}
 use Rattle.hours.specs.Reading.{hourOf, plainOf}
 use Rattle.lines.specs.Fields.{field, sameBytes, shapeOf}
 use Rattle.lines.specs.declared.reading.Heading.{Heading}
 use Rattle.lines.specs.declared.reading.Order.{Order}
 use Rattle.lines.specs.declared.reading.Load.{Load}
-use Rattle.lines.specs.declared.reading.Three.{Three}
 use Rattle.lines.specs.declared.reading.HeadingRead.{HeadingRead}
 use Rattle.lines.specs.declared.reading.HeadingRead.the-variants as heading
 use Rattle.lines.specs.declared.reading.OrderRead.{OrderRead}
 use Rattle.lines.specs.declared.reading.OrderRead.the-variants as order
 use Rattle.lines.specs.declared.reading.LoadRead.{LoadRead}
 use Rattle.lines.specs.declared.reading.LoadRead.the-variants as load
-use Rattle.lines.specs.declared.reading.FieldRead.{FieldRead}
-use Rattle.lines.specs.declared.reading.FieldRead.the-variants as one
-use Rattle.lines.specs.declared.reading.ThreeRead.{ThreeRead}
-use Rattle.lines.specs.declared.reading.ThreeRead.the-variants as three
 
 -- "grower (1 to 9,999)"
 abbrev pub lastGrower : ℕ
@@ -28,7 +24,7 @@ lastGrower = 9_999
 
 -- "the word `steam`"
 unfoldable pub steam : List ℕ
-steam = 115 ∷ 116 ∷ 101 ∷ 97 ∷ 109 ∷ []
+steam = bytes "steam"
 
 -- 1: "first word of a list's first line is not `steam`"; the word has no number, so 0 stands for it
 unfoldable pub steamAt : List ℕ → Read ℕ
@@ -93,19 +89,3 @@ asOrder (order.Refused number) = wrong number
 abbrev pub asLoad : LoadRead → Read Load
 asLoad (load.Read values) = right values
 asLoad (load.Refused number) = wrong number
-
--- what one field comes to, and three of them read from the left: "A field that does not read ends the reading of its line there"
-abbrev pub asField : FieldRead → Read ℕ
-asField (one.Number number) = right number
-asField (one.Refused number) = wrong number
-
-abbrev pub asThree : ThreeRead → Read Three
-asThree (three.Numbers numbers) = right numbers
-asThree (three.Refused number) = wrong number
-
-unfoldable pub threeOf : Read ℕ → Read ℕ → Read ℕ → Read Three
-threeOf one two last = do
-  first ← one
-  second ← two
-  third ← last
-  right (record { first = first; second = second; third = third })

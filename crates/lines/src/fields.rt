@@ -4,7 +4,8 @@ ghost use mathlib.Core.Path.{_≡_};
 ghost use mathlib.Core.Bool.{cond};
 ghost use lib.ListN.{length};
 ghost use lib.Dec.{eqb};
-ghost use Rattle.lines.specs.Fields.{field, afterField, fieldCount, sameBytes, endsField, endsLine, tabsIn};
+ghost use Rattle.lines.specs.Fields.{field, afterField, fieldCount, sameBytes};
+ghost use Rattle.lines.specs.Steps.{endsField, endsLine, tabsIn};
 use hours::Class;
 
 // Whether a byte of this class ends a field.

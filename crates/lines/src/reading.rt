@@ -5,18 +5,18 @@ ghost use mathlib.Core.Bool.{not};
 ghost use lib.Dec.{eqb};
 ghost use Rattle.ground.specs.Refusal.{right};
 ghost use Rattle.lines.specs.Fields.{field, fieldCount};
-ghost use Rattle.lines.specs.Reading.{steamAt, ranged, plainWithin, hourWithin, threeOf, headingOf, orderOf, loadOf, asField, asThree, asHeading, asOrder, asLoad};
+ghost use Rattle.lines.specs.Reading.{steamAt, ranged, plainWithin, hourWithin, headingOf, orderOf, loadOf, asHeading, asOrder, asLoad};
+ghost use Rattle.lines.specs.Steps.{threeOf, asField, asThree};
 use crate::fields;
 use ground::LAST_HOUR;
+use ground::LAST_PLAIN;
 use ground::LONGEST_RUN;
 use ground::MOST_CHAMBERS;
 use hours::HourRead;
 use hours::PlainRead;
 
-// The last number that a grower can have, and the last plain number.
+// The last number that a grower can have.
 pub const LAST_GROWER: u32 = 9_999;
-
-const LAST_PLAIN: u32 = 9_999;
 
 // The first line of a list.
 pub struct Heading {

@@ -6,7 +6,8 @@ use borrow.Author.Needs.{needs}
 use lib.ListN.{length, drop, getD}
 use lib.Dec.{eqb}
 use Rattle.hours.specs.Classes.{comma, classOf}
-use Rattle.lines.specs.Fields.{isEnded, fieldsOf, fieldCount, endsLine, tabsIn}
+use Rattle.lines.specs.Fields.{isEnded, fieldsOf, fieldCount}
+use Rattle.lines.specs.Steps.{endsLine, tabsIn}
 use Rattle.lines.proofs.Splitting.{ended-here, counted-on, not-ended, tabs-most}
 use Rattle.lines.proofs.fields.field_count.Statement.{statement}
 use Rattle.lines.proofs.fields.field_count.Tie as tie

@@ -4,7 +4,8 @@ use mathlib.Core.Path.{_≡_, sym, _∙_, ap}
 use native.Mathlib.Omega.{arith}
 use borrow.Author.Needs.{needs}
 use lib.ListN.{length, drop}
-use Rattle.lines.specs.Fields.{field, endsField}
+use Rattle.lines.specs.Fields.{field}
+use Rattle.lines.specs.Steps.{endsField}
 use Rattle.lines.proofs.Splitting.{field-stops, field-goes-on, field-none}
 use Rattle.lines.proofs.fields.field_end.Statement.{statement}
 use Rattle.lines.proofs.fields.field_end.Tie as tie

@@ -1,8 +1,8 @@
 -- `three_from` goes by what its field came to.
 use borrow.Author.Needs.{needs}
-use Rattle.lines.specs.Reading.{threeOf}
 use Rattle.lines.proofs.reading.three_from.Statement.{statement}
 use Rattle.lines.proofs.reading.three_from.Tie as tie
+use Rattle.lines.specs.Steps.{threeOf}
 
 enum-known-second : tie.Need-enum-known-second
 enum-known-second c = search needs

@@ -1,8 +1,8 @@
 -- `three_last` goes by what its field came to.
 use borrow.Author.Needs.{needs}
-use Rattle.lines.specs.Reading.{threeOf}
 use Rattle.lines.proofs.reading.three_last.Statement.{statement}
 use Rattle.lines.proofs.reading.three_last.Tie as tie
+use Rattle.lines.specs.Steps.{threeOf}
 
 enum-known-third : tie.Need-enum-known-third
 enum-known-third c = search needs

@@ -1,8 +1,8 @@
 -- `three_of` goes by what its field came to.
 use borrow.Author.Needs.{needs}
-use Rattle.lines.specs.Reading.{threeOf}
 use Rattle.lines.proofs.reading.three_of.Statement.{statement}
 use Rattle.lines.proofs.reading.three_of.Tie as tie
+use Rattle.lines.specs.Steps.{threeOf}
 
 enum-known-first : tie.Need-enum-known-first
 enum-known-first c = search needs
