@@ -3,7 +3,7 @@ use crate::print;
 use hours::HourRead;
 use hours::Written;
 
-pub fn all() {
+pub(crate) fn all() {
     read_fields();
     read_long_fields();
     read_bytes();

@@ -9,7 +9,7 @@ use lines::reading::OrderRead;
 use lines::walk;
 use lines::writing;
 
-pub fn all() {
+pub(crate) fn all() {
     walk_texts();
     read_headings();
     read_orders();

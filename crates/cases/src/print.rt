@@ -1,7 +1,7 @@
 // How a case is printed.
 
 // A text, with a byte that cannot be seen as a backslash and its number.
-pub fn text(bytes: &[u8]) {
+pub(crate) fn text(bytes: &[u8]) {
     let mut at: usize = 0;
     while at < bytes.len() {
         byte(bytes[at]);
@@ -22,14 +22,14 @@ fn byte(seen: u8) {
     }
 }
 
-pub fn end_line(word: &[u8], number: u32) {
+pub(crate) fn end_line(word: &[u8], number: u32) {
     io::write_all(1, word);
     io::print_decimal(1, number as u64);
     io::write_all(1, b"\n");
 }
 
 // A number behind a tab.
-pub fn number(number: u32) {
+pub(crate) fn number(number: u32) {
     io::write_all(1, b"\t");
     io::print_decimal(1, number as u64);
 }
