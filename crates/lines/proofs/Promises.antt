@@ -1,6 +1,6 @@
 -- What this room promises, about the very definitions that its contracts cite. Each is a line over a law of this folder. Assumes nothing.
 use Prim.Native.Nat.{ℕ, _≤_, _<_}
-use mathlib.Core.Path.{_≡_, sym, ap}
+use mathlib.Core.Path.{_≡_, sym, ap, _∙_}
 use mathlib.Core.Bool.{true}
 use mathlib.Core.List.{List, [], _∷_}
 use mathlib.Core.Logic.{_↔_}
@@ -20,6 +20,8 @@ use Rattle.lines.specs.Fields.{isEnded, fieldsOf, field, afterField, fie
 use Rattle.lines.specs.Reading.{lastGrower, headingOf, orderOf, loadOf, asHeading, asOrder, asLoad}
 use Rattle.lines.specs.Writing.{InRange, planText, planWritten}
 use Rattle.lines.specs.Meaning.{joined, AreLines, Splits, HasFields, PlainReads, HourReads, WordReads, HeadingFault, OrderFault, LoadFault}
+use denote.Ref.{RefT, now}
+use Rattle.lines.specs.declared.walk.Walk.{Walk}
 use Rattle.lines.specs.declared.reading.Heading.{Heading}
 use Rattle.lines.specs.declared.reading.Order.{Order}
 use Rattle.lines.specs.declared.reading.Load.{Load}
@@ -174,6 +176,28 @@ line-end-single text at = single-value (pastLine text at)
 
 pub line-at-single : (text : List ℕ) (at : ℕ) → Single (λ line. line ≡ lineAt text at)
 line-at-single text at = single-value (lineAt text at)
+
+-- two walks with one text and one place are one
+same-walk : (text : RefT (List ℕ)) (at : ℕ) → Single (λ (walk : Walk). (walk .text ≡ text) × (walk .at ≡ at))
+same-walk text at one other p q =
+    let texts : one .text ≡ other .text = p .0 ∙ sym (q .0) in
+    let places : one .at ≡ other .at = p .1 ∙ sym (q .1) in
+    λ i. record { text = texts i; at = places i }
+
+pub start-single : (text : RefT (List ℕ)) → Single (λ (walk : Walk). (walk .text ≡ text) × (walk .at ≡ 0))
+start-single text = same-walk text 0
+
+pub next-single :
+    (walk : Walk)
+    → Single {A = List ℕ × Walk}
+    (λ outcome.
+    (outcome .0 ≡ lineAt (now (walk .text)) (walk .at))
+    × (outcome .1 .text ≡ walk .text)
+    × (outcome .1 .at ≡ pastLine (now (walk .text)) (walk .at)))
+next-single walk one other p q =
+    let lines : one .0 ≡ other .0 = p .0 ∙ sym (q .0) in
+    let walks : one .1 ≡ other .1 = same-walk (walk .text) (pastLine (now (walk .text)) (walk .at)) (one .1) (other .1) (p .1, p .2) (q .1, q .2) in
+    λ i. (lines i, walks i)
 
 pub field-count-single : (line : List ℕ) → Single (λ count. count ≡ fieldCount line)
 field-count-single line = single-value (fieldCount line)
