@@ -1,0 +1,40 @@
+-- `take` is refused by the checks, and settles what was chosen where none refuses.
+use mathlib.Core.Path.{refl, sym, ap, _∙_}
+use native.Mathlib.Omega.{arith}
+use borrow.Author.Needs.{needs}
+use Rattle.ground.specs.Refusal.{right}
+use Rattle.book.proofs.Deciding.{refused-order, passed-order, settled-order}
+use Rattle.book.proofs.Book.take.Statement.{statement}
+use Rattle.book.proofs.Book.take.Tie as tie
+
+refusal-of-requires : tie.Need-refusal-of-requires
+refusal-of-requires c κs = search needs
+
+returns : tie.Need-returns
+returns c =
+    let a = c .before .before .args in
+    rw (refused-order (a .self) (a .ready) (a .due) (c .before .refusal-of .result) (c .before .refusal-of .ensures) (λ none. omega arith))
+    (record { said = refl; next = refl })
+
+choose-requires : tie.Need-choose-requires
+choose-requires c κs =
+    let a = c .before .before .args in
+    passed-order (a .self) (a .ready) (a .due) (c .before .refusal-of .result) (c .before .refusal-of .ensures) (omega arith) .sound .chambers-range .1
+
+settle-requires : tie.Need-settle-requires
+settle-requires c κs =
+    let k = c .before .before in
+    let a = k .before .args in
+    settled-order (a .self) (a .ready) (a .due) (k .refusal-of .result) (k .refusal-of .ensures) (omega (arith, c .before .if1 .left)) (c .choose .result)
+    (c .choose .ensures)
+
+returns-2 : tie.Need-returns-2
+returns-2 c =
+    let k = c .before .before .before in
+    let a = k .before .args in
+    let p = passed-order (a .self) (a .ready) (a .due) (k .refusal-of .result) (k .refusal-of .ensures) (omega (arith, c .before .before .if1 .left)) in
+    rw (p .choice ∙ ap right (sym (c .before .choose .ensures))) (c .settle .ensures)
+
+pub take-spec : {M : Type 1} → statement M
+take-spec =
+    tie.close (tie.spec refusal-of-requires returns choose-requires settle-requires returns-2)

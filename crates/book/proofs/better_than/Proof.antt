@@ -1,0 +1,23 @@
+-- `better_than` goes by what the other offer is.
+use borrow.Author.Needs.{needs}
+use Rattle.book.proofs.better_than.Statement.{statement}
+use Rattle.book.proofs.better_than.Tie as tie
+
+enum-told : tie.Need-enum-told
+enum-told c = search needs
+
+enum-known-other : tie.Need-enum-known-other
+enum-known-other c = search needs
+
+fuller-requires : tie.Need-fuller-requires
+fuller-requires c κs = search needs
+
+returns : tie.Need-returns
+returns c = rw (c .enum-told .given .1)
+
+returns-2 : tie.Need-returns-2
+returns-2 c = rw (c .fuller .ensures, c .before .before .other .given .1)
+
+pub better-than-spec : {M : Type 1} → statement M
+better-than-spec =
+    tie.close (tie.spec enum-told enum-known-other fuller-requires returns returns-2)

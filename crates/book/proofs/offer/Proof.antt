@@ -1,0 +1,35 @@
+-- `offer` lifts the free hour to ready and looks whether the run ends in time.
+use native.Mathlib.Omega.{arith}
+use borrow.Author.Needs.{needs}
+use Prim.Native.Nat.{_+_, max}
+use mathlib.Core.Path.{refl}
+use borrow.Author.Tests.{le-leb, lt-leb}
+use Rattle.book.specs.BestFit.{offer}
+use Rattle.book.proofs.offer.Statement.{statement}
+use Rattle.book.proofs.offer.Tie as tie
+
+later-requires : tie.Need-later-requires
+later-requires c κs = search needs
+
+cast-if1 : tie.Need-cast-if1
+cast-if1 c = search needs
+
+add-if1 : tie.Need-add-if1
+add-if1 c = search needs
+
+returns : tie.Need-returns
+unfolding offer
+returns c =
+    let a = c .before .before .args in
+    let e = c .before .later .ensures in
+    rw e (rw (le-leb (max (a .free) (a .ready) + a .run) (a .due) (omega (arith, e))) refl)
+
+returns-2 : tie.Need-returns-2
+unfolding offer
+returns-2 c =
+    let a = c .before .before .args in
+    let e = c .before .later .ensures in
+    rw (lt-leb (max (a .free) (a .ready) + a .run) (a .due) (omega (arith, e))) refl
+
+pub offer-spec : {M : Type 1} → statement M
+offer-spec = tie.close (tie.spec later-requires cast-if1 add-if1 returns returns-2)

@@ -1,0 +1,313 @@
+// The book: the rule by which an order is answered, with the free hours of the chambers.
+// Any numbers may come, and any book, sound or not. Assumes nothing.
+ghost use mathlib.Core.Path.{_≡_};
+ghost use mathlib.Core.Bool.{cond, _&&_};
+ghost use Prim.Native.Nat.{_+_, _≤_, _<_, max};
+ghost use lib.ListN.{take, drop};
+ghost use Rattle.ground.specs.Limits.{mostChambers, mostOrders};
+ghost use Rattle.ground.specs.Range.{within};
+ghost use Rattle.ground.specs.Refusal.{right, numberOf};
+ghost use Rattle.book.specs.Soundness.{lastFreeHour, allUpTo, isSound, freshBook, opened};
+ghost use Rattle.book.specs.BestFit.{offer, better, bestFit};
+ghost use Rattle.book.specs.Taking.{decided, Settles, Answered};
+
+// The last hour that a chamber can be free from.
+const LAST_FREE_HOUR: u32 = ground::LAST_HOUR;
+
+// What the book holds.
+pub struct Book {
+    pub chambers: u32,
+    pub run: u32,
+    pub clock: u32,
+    pub taken: u32,
+    pub kept: u32,
+    pub free: [u32; 8],
+}
+
+// What an order is answered.
+pub enum Answer {
+    Yes { chamber: u32, start: u32 },
+    No,
+    Refused(u32),
+}
+
+// The chamber chosen and the start there, or nothing where none fits.
+pub enum Choice {
+    Nothing,
+    Chamber { chamber: u32, start: u32 },
+}
+
+// An answer and the next book.
+pub struct Taken {
+    pub answer: Answer,
+    pub book: Book,
+}
+
+// A book that was opened, and the refusal's number, 0 where there is none.
+pub struct Opened {
+    pub refusal: u32,
+    pub book: Book,
+}
+
+// The later of two hours.
+fn later(one: u32, other: u32) -> u32
+    ensures { λ r. ⌜ r ≡ max one other ⌝ }
+{
+    if one < other { other } else { one }
+}
+
+// Whether no hour from a place on is above a limit.
+fn all_up_to(limit: u32, hours: &[u32], from: usize) -> bool
+    ensures { λ r. ⌜ r ≡ allUpTo limit (drop from (now (hours .entry))) ⌝ }
+{
+    let mut at = from;
+    while at < hours.len() {
+        if limit < hours[at] {
+            return false;
+        }
+        at += 1;
+    }
+    true
+}
+
+// What one chamber offers: the later of its free hour and ready, where the run ends in time.
+fn offer(ready: u32, due: u32, run: u32, chamber: u32, free: u32) -> Choice
+    ensures { λ r. ⌜ r ≡ offer ready due run chamber free ⌝ }
+{
+    let hour = later(free, ready);
+    if due as u64 >= hour as u64 + run as u64 {
+        return Choice::Chamber {
+            chamber,
+            start: hour,
+        };
+    }
+    Choice::Nothing
+}
+
+// The later start of two offers; the first where they are equal.
+fn better(one: Choice, other: Choice) -> Choice
+    ensures { λ r. ⌜ r ≡ better one other ⌝ }
+{
+    match one {
+        Choice::Nothing => other,
+        Choice::Chamber { chamber, start } => better_than(chamber, start, other),
+    }
+}
+
+fn better_than(chamber: u32, start: u32, other: Choice) -> Choice
+    ensures { λ r. ⌜ r ≡ better (Choice.Chamber chamber start) other ⌝ }
+{
+    match other {
+        Choice::Nothing => Choice::Chamber { chamber, start },
+        Choice::Chamber {
+            chamber: second,
+            start: begins,
+        } => fuller(chamber, start, second, begins),
+    }
+}
+
+fn fuller(chamber: u32, start: u32, second: u32, begins: u32) -> Choice
+    ensures { λ r. ⌜ r ≡ better (Choice.Chamber chamber start) (Choice.Chamber second begins) ⌝ }
+{
+    if start < begins {
+        return Choice::Chamber {
+            chamber: second,
+            start: begins,
+        };
+    }
+    Choice::Chamber { chamber, start }
+}
+
+// The choice among so many chambers, the first of them chamber 1, with these free hours.
+fn best_fit(ready: u32, due: u32, run: u32, hours: &[u32], count: usize) -> Choice
+    requires { ⌜ count ≤ mostChambers ⌝ }
+    ensures { λ r. ⌜ r ≡ bestFit ready due run 1 (take count (now (hours .entry))) ⌝ }
+{
+    let mut choice = Choice::Nothing;
+    let mut chamber: u32 = 1;
+    let mut at: usize = 0;
+    while at < hours.len() {
+        if count <= at {
+            return choice;
+        }
+        choice = better(choice, offer(ready, due, run, chamber, hours[at]));
+        chamber += 1;
+        at += 1;
+    }
+    choice
+}
+
+// A check's number where it is not met, else what the checks after it come to; 0 is no refusal.
+fn check(met: bool, number: u32, rest: u32) -> u32
+    ensures { λ r. ⌜ r ≡ cond met rest number ⌝ }
+{
+    if met { rest } else { number }
+}
+
+// A number lies in a range; both ends belong to it.
+fn within(low: u32, high: u32, number: u32) -> bool
+    ensures { λ r. ⌜ r ≡ within low high number ⌝ }
+{
+    (low <= number) & (number <= high)
+}
+
+impl Book {
+    // How many chambers there can be, how many orders a book takes, and the last hour.
+    pub const CHAMBERS: u32 = ground::MOST_CHAMBERS;
+
+    pub const ORDERS: u32 = ground::MOST_ORDERS;
+
+    pub const LAST_HOUR: u32 = ground::LAST_HOUR;
+
+    // A fresh book, or refusal 4 and a book with every field 0.
+    pub fn open(chambers: u32, run: u32) -> Opened
+        ensures { λ r. ⌜ r ≡ opened chambers run ⌝ }
+    {
+        let refusal = check(
+            within(1, Book::CHAMBERS, chambers),
+            4,
+            check(within(1, ground::LONGEST_RUN, run), 4, 0),
+        );
+        if refusal != 0 {
+            return Opened {
+                refusal,
+                book: empty(0, 0),
+            };
+        }
+        Opened {
+            refusal,
+            book: empty(chambers, run),
+        }
+    }
+
+    // An order with these hours: its answer, and the next book.
+    pub fn take(self, ready: u32, due: u32) -> Taken
+        ensures { λ r. ⌜ Answered self ready (decided self ready due) r ⌝ }
+    {
+        let refusal = refusal_of(self, ready, due);
+        if refusal != 0 {
+            return Taken {
+                answer: Answer::Refused(refusal),
+                book: self,
+            };
+        }
+        let choice = choose(self, ready, due);
+        settle(self, ready, choice)
+    }
+}
+
+// The choice of a book for an order.
+fn choose(book: Book, ready: u32, due: u32) -> Choice
+    requires { ⌜ book .chambers ≤ mostChambers ⌝ }
+    ensures { λ r. ⌜ r ≡ bestFit ready due (book .run) 1 (take (book .chambers) (book .free)) ⌝ }
+{
+    let free = book.free;
+    let count = book.chambers as usize;
+    best_fit(ready, due, book.run, &free, count)
+}
+
+// The answer to an order that is not refused, and the next book.
+fn settle(book: Book, ready: u32, choice: Choice) -> Taken
+    requires { ⌜ Settles book choice ⌝ }
+    ensures { λ r. ⌜ Answered book ready (right choice) r ⌝ }
+{
+    match choice {
+        Choice::Nothing => declined(book, ready),
+        Choice::Chamber { chamber, start } => accepted(book, ready, chamber, start),
+    }
+}
+
+// A no: the order counts as taken, and the clock moves on.
+fn declined(book: Book, ready: u32) -> Taken
+    requires { ⌜ book .taken < mostOrders ⌝ }
+    ensures { λ r. ⌜ Answered book ready (right Choice.Nothing) r ⌝ }
+{
+    let free = book.free;
+    Taken {
+        answer: Answer::No,
+        book: Book {
+            chambers: book.chambers,
+            run: book.run,
+            clock: ready,
+            taken: book.taken + 1,
+            kept: book.kept,
+            free,
+        },
+    }
+}
+
+// A yes: the chamber is taken from the start on, for as long as a load holds it.
+fn accepted(book: Book, ready: u32, chamber: u32, start: u32) -> Taken
+    requires { ⌜ Settles book (Choice.Chamber chamber start) ⌝ }
+    ensures { λ r. ⌜ Answered book ready (right (Choice.Chamber chamber start)) r ⌝ }
+{
+    let at = (chamber - 1) as usize;
+    let mut free = book.free;
+    free[at] = start + book.run;
+    Taken {
+        answer: Answer::Yes { chamber, start },
+        book: Book {
+            chambers: book.chambers,
+            run: book.run,
+            clock: ready,
+            taken: book.taken + 1,
+            kept: book.kept + 1,
+            free,
+        },
+    }
+}
+
+// Whether the free hours of a book are as a sound one's: none above the last, and 0 for the chambers above the count.
+fn hours_are_sound(book: Book) -> bool
+    ensures { λ r. ⌜ r ≡ (allUpTo lastFreeHour (book .free) && allUpTo 0 (drop (book .chambers) (book .free))) ⌝ }
+{
+    let free = book.free;
+    let count = book.chambers as usize;
+    let most = all_up_to(LAST_FREE_HOUR, &free, 0);
+    let rest = all_up_to(0, &free, count);
+    most & rest
+}
+
+// Whether a book is sound.
+fn is_sound(book: Book) -> bool
+    ensures { λ r. ⌜ r ≡ isSound book ⌝ }
+{
+    let housed = within(1, Book::CHAMBERS, book.chambers);
+    let timed = within(1, ground::LONGEST_RUN, book.run);
+    let counts = (book.kept <= book.taken) & (book.taken <= Book::ORDERS);
+    housed & timed & (book.clock <= Book::LAST_HOUR) & counts & hours_are_sound(book)
+}
+
+// The refusal of an order, 0 where there is none.
+fn refusal_of(book: Book, ready: u32, due: u32) -> u32
+    ensures { λ r. ⌜ r ≡ numberOf (decided book ready due) ⌝ }
+{
+    let late = check(
+        book.taken < Book::ORDERS,
+        6,
+        check(book.clock <= ready, 5, 0),
+    );
+    check(
+        is_sound(book),
+        8,
+        check(
+            ready <= Book::LAST_HOUR,
+            4,
+            check(due <= Book::LAST_HOUR, 4, late),
+        ),
+    )
+}
+
+// A book with nothing in it but its chambers and its run.
+fn empty(chambers: u32, run: u32) -> Book
+    ensures { λ r. ⌜ r ≡ freshBook chambers run ⌝ }
+{
+    Book {
+        chambers,
+        run,
+        clock: 0,
+        taken: 0,
+        kept: 0,
+        free: [0; 8],
+    }
+}
