@@ -2,3 +2,4 @@
 pub mod Soundness
 pub mod BestFit
 pub mod Taking
+pub mod Meaning
