@@ -3,3 +3,5 @@ pub mod Soundness
 pub mod BestFit
 pub mod Taking
 pub mod Meaning
+pub mod History
+pub mod Cases

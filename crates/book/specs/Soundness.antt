@@ -19,9 +19,9 @@ allUpTo limit [] = true
 allUpTo limit (hour ∷ hours) = leb hour limit && allUpTo limit hours
 
 -- all of several tests hold
-unfoldable pub allHold : List Bool → Bool
-allHold [] = true
-allHold (test ∷ tests) = test && allHold tests
+unfoldable pub allMet : List Bool → Bool
+allMet [] = true
+allMet (test ∷ tests) = test && allMet tests
 
 -- "A book is sound when chambers are 1 to 8, run 1 to 9,999, clock and free hours at most 999,999, kept at most taken, taken at most 512, and chambers above the count have free hour 0."
 unfoldable pub soundness : Book → List Bool
@@ -36,7 +36,7 @@ soundness book =
     ∷ []
 
 unfoldable pub isSound : Book → Bool
-isSound book = allHold (soundness book)
+isSound book = allMet (soundness book)
 
 -- "A fresh book has every chamber free from hour 0, the clock at 0 and both counts 0"
 abbrev pub freshBook : ℕ → ℕ → Book

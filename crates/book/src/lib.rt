@@ -223,16 +223,17 @@ fn declined(book: Book, ready: u32) -> Taken
     ensures { λ r. ⌜ Answered book ready (right Choice.Nothing) r ⌝ }
 {
     let free = book.free;
+    let passed = Book {
+        chambers: book.chambers,
+        run: book.run,
+        clock: ready,
+        taken: book.taken + 1,
+        kept: book.kept,
+        free,
+    };
     Taken {
         answer: Answer::No,
-        book: Book {
-            chambers: book.chambers,
-            run: book.run,
-            clock: ready,
-            taken: book.taken + 1,
-            kept: book.kept,
-            free,
-        },
+        book: passed,
     }
 }
 
@@ -242,18 +243,20 @@ fn accepted(book: Book, ready: u32, chamber: u32, start: u32) -> Taken
     ensures { λ r. ⌜ Answered book ready (right (Choice.Chamber chamber start)) r ⌝ }
 {
     let at = (chamber - 1) as usize;
+    let hold = book.run;
     let mut free = book.free;
-    free[at] = start + book.run;
+    free[at] = start + hold;
+    let booked = Book {
+        chambers: book.chambers,
+        run: book.run,
+        clock: ready,
+        taken: book.taken + 1,
+        kept: book.kept + 1,
+        free,
+    };
     Taken {
         answer: Answer::Yes { chamber, start },
-        book: Book {
-            chambers: book.chambers,
-            run: book.run,
-            clock: ready,
-            taken: book.taken + 1,
-            kept: book.kept + 1,
-            free,
-        },
+        book: booked,
     }
 }
 

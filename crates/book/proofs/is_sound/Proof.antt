@@ -6,7 +6,7 @@ use lib.Dec.{leb}
 use borrow.Author.Needs.{needs}
 use Rattle.ground.specs.Range.{within}
 use Rattle.ground.specs.Limits.{lastHour, mostChambers, longestRun, mostOrders}
-use Rattle.book.specs.Soundness.{lastFreeHour, allUpTo, soundness, allHold, isSound}
+use Rattle.book.specs.Soundness.{lastFreeHour, allUpTo, soundness, allMet, isSound}
 use Rattle.book.proofs.is_sound.Statement.{statement}
 use Rattle.book.proofs.is_sound.Tie as tie
 
@@ -39,7 +39,7 @@ hours-are-sound-requires : tie.Need-hours-are-sound-requires
 hours-are-sound-requires c κs = search needs
 
 returns : tie.Need-returns
-unfolding isSound soundness allHold
+unfolding isSound soundness allMet
 returns c =
     let book = c .before .before .before .before .before .before .args .book in
     rw (c .before .before .before .before .before .within .ensures, c .before .before .before .before .within2 .ensures, c .hours-are-sound .ensures)

@@ -19,7 +19,7 @@ returns c =
 choose-requires : tie.Need-choose-requires
 choose-requires c κs =
     let a = c .before .before .args in
-    passed-order (a .self) (a .ready) (a .due) (c .before .refusal-of .result) (c .before .refusal-of .ensures) (omega arith) .sound .chambers-range .1
+    passed-order (a .self) (a .ready) (a .due) (c .before .refusal-of .result) (c .before .refusal-of .ensures) (omega arith) .admitted .sound .chambers-range .1
 
 settle-requires : tie.Need-settle-requires
 settle-requires c κs =
