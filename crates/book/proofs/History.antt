@@ -15,10 +15,11 @@ use Rattle.book.specs.Soundness.{freshBook}
 use Rattle.book.specs.BestFit.{lifted}
 use Rattle.book.specs.Taking.{hold, decided, nextBook}
 use Rattle.book.specs.Meaning.{Sized, hourFor, Fits, BestFitting, NoneFits}
-use Rattle.book.specs.History.{Order, Load, decidedOf, bookNext, bookAfter, loadTaken, loadsOf, During, Runs, Completes, Feasible, SourceChoice, SourceRejects}
+use Rattle.book.specs.History.{Order, Load, decidedOf, bookNext, bookAfter, loadTaken, loadsOf, During, Runs, Completes, Feasible, SourceChoice, SourceRejects, LowestSourceChoice}
 use Rattle.book.specs.declared.Book.{Book}
 use Rattle.book.specs.declared.Choice.{Choice}
 use Rattle.book.specs.declared.Choice.the-variants.{Nothing, Chamber}
+use Rattle.book.proofs.Refusals.{Admitted}
 use Rattle.book.proofs.Steps.{yes-exactly, no-exactly}
 
 -- what a yes is known to be: to one of the chambers, at the later of its free hour and the ready hour
@@ -202,18 +203,47 @@ module _ (chambers run : ℕ) (book : Book) (loads : List Load) (kept : Kept cha
         in-time = omega (arith, feasible .in-time, kept .same-run);
       }
 
-  -- the paper's choice is one of the source's
-  best-fitting-source : (due chamber start : ℕ) → BestFitting book present due chamber start → SourceChoice chambers run loads present due chamber start
-  best-fitting-source due chamber start best =
-      record {
-        feasible = rw (best .started) (fits-feasible due chamber (best .fitting));
-        largest = λ other time feasible.
-            rw (feasible-hour due other time feasible) (best .largest other (feasible-fits due other time feasible));
-      }
+  -- the paper's choice is the lowest of the source's
+  best-fitting-source :
+      (due chamber start : ℕ) → BestFitting book present due chamber start ↔ LowestSourceChoice chambers run loads present due chamber start
+  best-fitting-source due chamber start = (to, from)
+    where
+      largest-of :
+          ((other : ℕ) → Fits book present due other → hourFor book present other ≤ start) → (other time : ℕ)
+          → Feasible chambers run loads present due other time → time ≤ start
+      largest-of largest other time feasible = rw (feasible-hour due other time feasible) (largest other (feasible-fits due other time feasible))
 
-  -- and where none fits the source rejects
-  none-fits-source : (due : ℕ) → NoneFits book present due → SourceRejects chambers run loads present due
-  none-fits-source due none chamber time feasible = none chamber (feasible-fits due chamber time feasible)
+      to : BestFitting book present due chamber start → LowestSourceChoice chambers run loads present due chamber start
+      to best =
+          let here : Feasible chambers run loads present due chamber start = rw (best .started) (fits-feasible due chamber (best .fitting)) in
+          record {
+            choice = record { feasible = here; largest = largest-of (best .largest) };
+            lowest = λ other time source.
+                best .lowest other (feasible-fits due other time (source .feasible))
+                (omega (
+                  arith,
+                  feasible-hour due other time (source .feasible),
+                  source .largest chamber start here,
+                  largest-of (best .largest) other time (source .feasible),
+                ));
+          }
+
+      from : LowestSourceChoice chambers run loads present due chamber start → BestFitting book present due chamber start
+      from source =
+          record {
+            fitting = feasible-fits due chamber start (source .choice .feasible);
+            started = feasible-hour due chamber start (source .choice .feasible);
+            largest = λ other fits. source .choice .largest other (hourFor book present other) (fits-feasible due other fits);
+            lowest = λ other fits equal.
+                source .lowest other start (record { feasible = rw equal at (fits-feasible due other fits); largest = source .choice .largest });
+          }
+
+  -- and none fits exactly where the source rejects
+  none-fits-source : (due : ℕ) → NoneFits book present due ↔ SourceRejects chambers run loads present due
+  none-fits-source due = (
+    λ none chamber time feasible. none chamber (feasible-fits due chamber time feasible),
+    λ rejects chamber fits. rejects chamber (hourFor book present chamber) (fits-feasible due chamber fits),
+  )
 
 -- The laws, of every book that was opened fresh and then given any orders.
 module _ (chambers run : ℕ) (orders : List Order) where
@@ -225,22 +255,34 @@ module _ (chambers run : ℕ) (orders : List Order) where
       committed chambers run (bookAfter (freshBook chambers run) orders) (loadsOf (freshBook chambers run) orders) (kept-always chambers run orders) present in-turn
       chamber counted
 
-  -- a yes is what the source does with the order
+  -- a yes is exactly what the source does with the order, by the lowest number
   pub yes-as-source :
-      (ready due chamber start : ℕ) → decided (bookAfter (freshBook chambers run) orders) ready due ≡ right (Chamber chamber start)
-      → SourceChoice chambers run (loadsOf (freshBook chambers run) orders) ready due chamber start
-  yes-as-source ready due chamber start answered =
+      (ready due chamber start : ℕ)
+      → (decided (bookAfter (freshBook chambers run) orders) ready due ≡ right (Chamber chamber start))
+      ↔ (Admitted (bookAfter (freshBook chambers run) orders) ready due
+      × LowestSourceChoice chambers run (loadsOf (freshBook chambers run) orders) ready due chamber start)
+  yes-as-source ready due chamber start =
       let book = bookAfter (freshBook chambers run) orders in
+      let loads = loadsOf (freshBook chambers run) orders in
       let kept = kept-always chambers run orders in
-      let known = yes-exactly book ready due (kept .sized) chamber start .0 answered in
-      best-fitting-source chambers run book (loadsOf (freshBook chambers run) orders) kept ready (known .0 .in-turn) due chamber start (known .1)
+      let answer = yes-exactly book ready due (kept .sized) chamber start in (
+        λ yes.
+            let known = answer .0 yes in
+            (known .0, best-fitting-source chambers run book loads kept ready (known .0 .in-turn) due chamber start .0 (known .1)),
+        λ known. answer .1 (known .0, best-fitting-source chambers run book loads kept ready (known .0 .in-turn) due chamber start .1 (known .1)),
+      )
 
-  -- a no is given where the source rejects the order
+  -- a no is given exactly where the source rejects the order
   pub no-as-source :
-      (ready due : ℕ) → decided (bookAfter (freshBook chambers run) orders) ready due ≡ right Nothing
-      → SourceRejects chambers run (loadsOf (freshBook chambers run) orders) ready due
-  no-as-source ready due answered =
+      (ready due : ℕ)
+      → (decided (bookAfter (freshBook chambers run) orders) ready due ≡ right Nothing)
+      ↔ (Admitted (bookAfter (freshBook chambers run) orders) ready due
+      × SourceRejects chambers run (loadsOf (freshBook chambers run) orders) ready due)
+  no-as-source ready due =
       let book = bookAfter (freshBook chambers run) orders in
+      let loads = loadsOf (freshBook chambers run) orders in
       let kept = kept-always chambers run orders in
-      let known = no-exactly book ready due (kept .sized) .0 answered in
-      none-fits-source chambers run book (loadsOf (freshBook chambers run) orders) kept ready (known .0 .in-turn) due (known .1)
+      let answer = no-exactly book ready due (kept .sized) in (
+        λ no. let known = answer .0 no in (known .0, none-fits-source chambers run book loads kept ready (known .0 .in-turn) due .0 (known .1)),
+        λ known. answer .1 (known .0, none-fits-source chambers run book loads kept ready (known .0 .in-turn) due .1 (known .1)),
+      )

@@ -17,7 +17,7 @@ use Rattle.book.specs.Soundness.{allUpTo, allMet, soundness, isSound, fr
 use Rattle.book.specs.BestFit.{offer, bestFit}
 use Rattle.book.specs.Taking.{decided, nextBook, asChoice, Answered}
 use Rattle.book.specs.Meaning.{Sized, hourFor, BestFitting, NoneFits}
-use Rattle.book.specs.History.{Order, bookAfter, loadsOf, Completes, SourceChoice, SourceRejects}
+use Rattle.book.specs.History.{Order, bookAfter, loadsOf, Completes, SourceRejects, LowestSourceChoice}
 use Rattle.book.specs.Cases.{markedCases, unmarkedCases, holds, allHold}
 use Rattle.book.specs.declared.Book.{Book}
 use Rattle.book.specs.declared.Answer.the-variants.{Yes, No, Refused}
@@ -111,17 +111,20 @@ pub busy-without-gap :
     → Completes run (loadsOf (freshBook chambers run) orders) chamber present (hourFor (bookAfter (freshBook chambers run) orders) present chamber)
 busy-without-gap = history.busy-without-gap
 
--- 2c: a yes is what the source does with the order
+-- 2c: a yes is exactly what the source does with the order, by the lowest number where it leaves a tie
 pub yes-as-source :
     (chambers run : ℕ) (orders : List Order) (ready due chamber start : ℕ)
-    → decided (bookAfter (freshBook chambers run) orders) ready due ≡ right (Chamber chamber start)
-    → SourceChoice chambers run (loadsOf (freshBook chambers run) orders) ready due chamber start
+    → (decided (bookAfter (freshBook chambers run) orders) ready due ≡ right (Chamber chamber start))
+    ↔ (Admitted (bookAfter (freshBook chambers run) orders) ready due
+    × LowestSourceChoice chambers run (loadsOf (freshBook chambers run) orders) ready due chamber start)
 yes-as-source = history.yes-as-source
 
--- 2c: and a no is given where the source rejects it
+-- 2c: and a no is given exactly where the source rejects it
 pub no-as-source :
-    (chambers run : ℕ) (orders : List Order) (ready due : ℕ) → decided (bookAfter (freshBook chambers run) orders) ready due ≡ right Nothing
-    → SourceRejects chambers run (loadsOf (freshBook chambers run) orders) ready due
+    (chambers run : ℕ) (orders : List Order) (ready due : ℕ)
+    → (decided (bookAfter (freshBook chambers run) orders) ready due ≡ right Nothing)
+    ↔ (Admitted (bookAfter (freshBook chambers run) orders) ready due
+    × SourceRejects chambers run (loadsOf (freshBook chambers run) orders) ready due)
 no-as-source = history.no-as-source
 
 -- a sound book stays sound, so kept never exceeds taken

@@ -73,3 +73,8 @@ pub record SourceChoice (chambers length : ℕ) (loads : List Load) (ready due c
 -- "If no feasible machine for job j exists, the job is rejected"
 abbrev pub SourceRejects : ℕ → ℕ → List Load → ℕ → ℕ → Type 0
 SourceRejects chambers length loads ready due = (chamber time : ℕ) → Feasible chambers length loads ready due chamber time → ⊥
+
+-- the source leaves ties open; the paper takes the lowest number of its choices
+pub record LowestSourceChoice (chambers length : ℕ) (loads : List Load) (ready due chamber start : ℕ) : Type 0 where
+  pub choice : SourceChoice chambers length loads ready due chamber start
+  pub lowest : (other time : ℕ) → SourceChoice chambers length loads ready due other time → chamber ≤ other
