@@ -129,6 +129,34 @@ right-best hour ready due run first (free ∷ hours) known =
     further : (at : ℕ) → at < length hours → lifted ready (getD hours at 0) ≡ hour (suc first + at)
     further at inside = let moved : first + suc at ≡ suc first + at = omega arith in rw moved at (known (suc at) (omega arith))
 
+-- a chosen chamber is one of those listed, and its load ends in time
+pub record Listed (due run : ℕ) (hours : List ℕ) (chamber start : ℕ) : Type 0 where
+  pub least : 1 ≤ chamber
+  pub most : chamber ≤ length hours
+  pub in-time : start + run ≤ due
+
+abbrev pub Chosen : ℕ → ℕ → List ℕ → Choice → Type 0
+Chosen due run hours Nothing = Unit {0}
+Chosen due run hours (Chamber chamber start) = Listed due run hours chamber start
+
+module _ (ready due run : ℕ) (hours : List ℕ) where
+  abbrev hour-listed : ℕ → ℕ
+  hour-listed chamber = lifted ready (getD hours (chamber - 1) 0)
+
+  right-chosen : (choice : Choice) → RightAmong hour-listed due run 1 (1 + length hours) choice → Chosen due run hours choice
+  right-chosen Nothing right = tt
+  right-chosen (Chamber chamber start) right =
+      record {
+        least = right .fitting .least;
+        most = omega (arith, right .fitting .before);
+        in-time = omega (arith, right .started, right .fitting .in-time);
+      }
+
+  pub chosen : Chosen due run hours (bestFit ready due run 1 hours)
+  chosen =
+      right-chosen (bestFit ready due run 1 hours)
+      (right-best hour-listed ready due run 1 hours (λ at inside. let moved : (1 + at) - 1 ≡ at = omega arith in rw moved refl))
+
 module _ (hour : ℕ → ℕ) (due run first past : ℕ) where
   -- there is one best
   one-best :

@@ -10,7 +10,7 @@ use Rattle.book.specs.Taking.{decided, Settles}
 use Rattle.book.specs.declared.Book.{Book}
 use Rattle.book.specs.declared.Choice.{Choice}
 use Rattle.book.specs.declared.Choice.the-variants.{Nothing, Chamber}
-use Rattle.book.proofs.Choosing.{Chosen, chosen}
+use Rattle.book.proofs.Choices.{Chosen, chosen}
 use Rattle.book.proofs.Refusals.{Admitted, by-choice, never-by-none}
 
 -- no check refused the order
@@ -29,7 +29,7 @@ passed book ready due none = answered (decided book ready due) refl none
 -- then whatever is chosen can be settled
 settles :
     (book : Book) (ready due : ℕ) → Passed book ready due → (choice : Choice)
-    → Chosen due (book .run) 1 (take (book .chambers) (book .free)) choice → Settles book choice
+    → Chosen due (book .run) (take (book .chambers) (book .free)) choice → Settles book choice
 settles book ready due p Nothing w = p .admitted .room
 settles book ready due p (Chamber chamber start) w =
     let few : length (take (book .chambers) (book .free)) ≤ book .chambers = simp length-take (omega arith) in
@@ -48,4 +48,4 @@ module _ (book : Book) (ready due refusal : ℕ) (number : refusal ≡ numberOf 
   settled-order none choice chose =
       rw chose
       (settles book ready due (passed-order none) (bestFit ready due (book .run) 1 (take (book .chambers) (book .free)))
-      (chosen ready due (book .run) 1 (take (book .chambers) (book .free))))
+      (chosen ready due (book .run) (take (book .chambers) (book .free))))

@@ -15,7 +15,7 @@ use Rattle.book.specs.Soundness.{freshBook}
 use Rattle.book.specs.BestFit.{lifted}
 use Rattle.book.specs.Taking.{hold, decided, nextBook}
 use Rattle.book.specs.Meaning.{Sized, hourFor, Fits, BestFitting, NoneFits}
-use Rattle.book.specs.History.{Order, Load, decidedOf, bookNext, bookAfter, loadTaken, loadsOf, During, Runs, Completes, Feasible, SourceChoice, SourceRejects, LowestSourceChoice}
+use Rattle.book.specs.History.{Order, Load, decidedOf, bookNext, bookAfter, loadTaken, loadsOf, During, Runs, Completes, Feasible, SourceRejects, LowestSourceChoice}
 use Rattle.book.specs.declared.Book.{Book}
 use Rattle.book.specs.declared.Choice.{Choice}
 use Rattle.book.specs.declared.Choice.the-variants.{Nothing, Chamber}

@@ -1,6 +1,6 @@
 -- The laws of this room, by what they are about.
-pub mod Choices
 pub mod Choosing
+pub mod Choices
 pub mod Soundness
 pub mod Refusals
 pub mod Deciding

@@ -1,17 +1,34 @@
--- What it is for a book to be sound, as facts. Assumes nothing.
-use Prim.Native.Nat.{ℕ, zero, suc, _≤_}
+-- Hours within a limit, and what it is for a book to be sound, as facts. Assumes nothing.
+use Prim.Native.Nat.{ℕ, zero, suc, _+_, _≤_, _<_}
 use mathlib.Core.Path.{_≡_, refl}
-use mathlib.Core.Bool.{true, _&&_}
-use lib.ListN.{drop, replicate}
+use mathlib.Core.Bool.{true, false, _&&_}
+use mathlib.Core.List.{List}
+use lib.ListN.{length, getD, drop, replicate, drop-of-length-le}
+use lib.Seq.{drop-cons}
 use lib.Dec.{leb}
+use native.Mathlib.Numerals.{add-one}
 use native.Mathlib.Omega.{arith}
-use borrow.Author.Tests.{leb-true, le-leb}
+use borrow.Author.Tests.{leb-true, le-leb, lt-leb}
 use Rattle.ground.specs.Range.{within}
 use Rattle.ground.specs.Limits.{lastHour, mostChambers, longestRun, mostOrders}
 use Rattle.ground.proofs.Tests.{both, first-of, second-of}
 use Rattle.ground.proofs.Range.{within-from, within-low, within-high}
 use Rattle.book.specs.Soundness.{lastFreeHour, allUpTo, allMet, soundness, isSound, freshBook}
 use Rattle.book.specs.declared.Book.{Book}
+
+-- hours within a limit, one after another
+module _ (limit : ℕ) (hours : List ℕ) (at : ℕ) where
+  pub limit-holds : at < length hours → getD hours at 0 ≤ limit → allUpTo limit (drop at hours) ≡ allUpTo limit (drop (at + 1) hours)
+  unfolding allUpTo
+  limit-holds inside holds = rw (drop-cons hours at 0 inside, le-leb _ _ holds, add-one)
+
+  pub limit-broken : at < length hours → limit < getD hours at 0 → allUpTo limit (drop at hours) ≡ false
+  unfolding allUpTo
+  limit-broken inside broken = rw (drop-cons hours at 0 inside, lt-leb _ _ broken)
+
+  pub limit-end : length hours ≤ at → allUpTo limit (drop at hours) ≡ true
+  unfolding allUpTo
+  limit-end past = rw (drop-of-length-le hours past)
 
 -- "A book is sound when", as facts
 pub record Sound (book : Book) : Type 0 where

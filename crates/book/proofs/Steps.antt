@@ -17,8 +17,7 @@ use Rattle.book.specs.Meaning.{Sized, BestFitting, NoneFits}
 use Rattle.book.specs.declared.Book.{Book}
 use Rattle.book.specs.declared.Choice.{Choice}
 use Rattle.book.specs.declared.Choice.the-variants.{Nothing, Chamber}
-use Rattle.book.proofs.Choosing.{Chosen, chosen}
-use Rattle.book.proofs.Choices.{best-exactly, none-exactly}
+use Rattle.book.proofs.Choices.{Chosen, chosen, best-exactly, none-exactly}
 use Rattle.book.proofs.Soundness.{Sound}
 use Rattle.book.proofs.Refusals.{Admitted, by-choice}
 
@@ -40,7 +39,7 @@ module _ (book : Book) (ready due : ℕ) where
 
   -- a book that took an order is sound
   taken-sound :
-      Admitted book ready due → (choice : Choice) → Chosen due (book .run) 1 (take (book .chambers) (book .free)) choice
+      Admitted book ready due → (choice : Choice) → Chosen due (book .run) (take (book .chambers) (book .free)) choice
       → Sound (nextBook book ready (right choice))
   taken-sound admitted Nothing inside =
       let sound = admitted .sound in
@@ -72,7 +71,7 @@ module _ (book : Book) (ready due : ℕ) where
   stays-sound (wrong number) e sound = sound
   stays-sound (right choice) e sound =
       let p = by-choice book ready due choice .0 e in
-      taken-sound (p .0) choice (rw (p .1) at (chosen ready due (book .run) 1 (take (book .chambers) (book .free))))
+      taken-sound (p .0) choice (rw (p .1) at (chosen ready due (book .run) (take (book .chambers) (book .free))))
 
   -- an order gets a chamber and a start exactly when nothing is wrong with it and they fit best
   pub yes-exactly :

@@ -5,7 +5,7 @@ use native.Mathlib.Omega.{arith}
 use borrow.Author.Needs.{needs}
 use lib.ListN.{length, drop}
 use Rattle.book.specs.Soundness.{allUpTo}
-use Rattle.book.proofs.Choosing.{limit-holds, limit-broken, limit-end}
+use Rattle.book.proofs.Soundness.{limit-holds, limit-broken, limit-end}
 use Rattle.book.proofs.all_up_to.Statement.{statement}
 use Rattle.book.proofs.all_up_to.Tie as tie
 
