@@ -11,6 +11,9 @@ ghost use Rattle.book.specs.Soundness.{lastFreeHour, allUpTo, isSound, f
 ghost use Rattle.book.specs.BestFit.{offer, better, bestFit};
 ghost use Rattle.book.specs.Taking.{decided, Settles, Answered};
 
+// How many free hours a book holds: one for each chamber that there can be.
+const FREE_HOURS: usize = ground::MOST_CHAMBERS as usize;
+
 // The last hour that a chamber can be free from.
 const LAST_FREE_HOUR: u32 = ground::LAST_HOUR;
 
@@ -21,7 +24,7 @@ pub struct Book {
     pub clock: u32,
     pub taken: u32,
     pub kept: u32,
-    pub free: [u32; 8],
+    pub free: [u32; FREE_HOURS],
 }
 
 // What an order is answered.
@@ -311,6 +314,6 @@ fn empty(chambers: u32, run: u32) -> Book
         clock: 0,
         taken: 0,
         kept: 0,
-        free: [0; 8],
+        free: [0; FREE_HOURS],
     }
 }
