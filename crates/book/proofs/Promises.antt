@@ -11,11 +11,10 @@ use Rattle.ground.specs.Limits.{lastHour, mostChambers, longestRun, mostOrders}
 use Rattle.ground.specs.Outcome.{Injective, Single}
 use Rattle.ground.proofs.Tests.{by-test, never-both, both, first-of, second-of}
 use Rattle.ground.proofs.Range.{within-from, within-low, within-high}
-use Rattle.ground.proofs.Refusal.{never-right, same-right, same-wrong}
 use Rattle.ground.proofs.Outcome.{single-answer, single-value}
 use Rattle.book.specs.Soundness.{allUpTo, allMet, soundness, isSound, freshBook, opened}
 use Rattle.book.specs.BestFit.{offer, bestFit}
-use Rattle.book.specs.Taking.{decided, nextBook, asChoice, Answered}
+use Rattle.book.specs.Taking.{decided, nextBook, Word, yes, no, refused, Told, told, answerOf, Answered}
 use Rattle.book.specs.Meaning.{Sized, hourFor, BestFitting, NoneFits}
 use Rattle.book.specs.History.{Order, bookAfter, loadsOf, Completes, SourceRejects, LowestSourceChoice}
 use Rattle.book.specs.Cases.{markedCases, unmarkedCases, holds, allHold}
@@ -87,7 +86,7 @@ refused-by-no-other = refusals.by-no-other
 -- 1c: a refused order leaves the book
 pub refused-order-stays :
     (book : Book) (ready due number : ℕ) → decided book ready due ≡ wrong number → nextBook book ready (decided book ready due) ≡ book
-refused-order-stays book ready due number refused = ap (nextBook book ready) refused
+refused-order-stays book ready due number wrongly = ap (nextBook book ready) wrongly
 
 -- 2a: an order gets a chamber and a start exactly when nothing is wrong with it and they are what the rule describes
 pub yes-exactly :
@@ -142,23 +141,28 @@ pub short-order-is-a-no :
     (book : Book) (ready due : ℕ) → Sized book → Admitted book ready due → due < ready + book .run
     → (decided book ready due ≡ right Nothing) × (nextBook book ready (decided book ready due) .taken ≡ book .taken + 1)
 short-order-is-a-no book ready due sized admitted short =
-    let no = steps.short-order-is-a-no book ready due sized admitted short in (no, ap (λ decision. nextBook book ready decision .taken) no)
+    let declined = steps.short-order-is-a-no book ready due sized admitted short in (declined, ap (λ decision. nextBook book ready decision .taken) declined)
 
--- a chamber is not nothing
-chamber-is-something : {chamber start : ℕ} → Chamber chamber start ≡ Nothing → ⊥
-chamber-is-something {chamber} {start} same = let z : _≡_ {A = ℕ} 0 1 = cc in omega arith
+-- the words are three
+abbrev place : Word → ℕ
+place yes = 0
+place no = 1
+place refused = 2
 
--- the paper's number and values tell the cases of an answer apart
-answer-told : Injective asChoice
-answer-told (Yes chamber start) (Yes other begins) same = let chose = same-right same in cc
-answer-told (Yes chamber start) No same = absurd (chamber-is-something (same-right same))
-answer-told (Yes chamber start) (Refused number) same = absurd (never-right (sym same))
-answer-told No (Yes chamber start) same = absurd (chamber-is-something (sym (same-right same)))
+same-place : {one other : Told} → one ≡ other → place (one .word) ≡ place (other .word)
+same-place = ap (λ answer. place (answer .word))
+
+-- the paper's word and numbers tell the cases of an answer apart
+answer-told : Injective told
+answer-told (Yes chamber start) (Yes other begins) same = rw (ap (λ answer. answer .chamber) same, ap (λ answer. answer .start) same)
+answer-told (Yes chamber start) No same = absurd (omega (arith, same-place same))
+answer-told (Yes chamber start) (Refused number) same = absurd (omega (arith, same-place same))
+answer-told No (Yes chamber start) same = absurd (omega (arith, same-place same))
 answer-told No No same = refl
-answer-told No (Refused number) same = absurd (never-right (sym same))
-answer-told (Refused number) (Yes chamber start) same = absurd (never-right same)
-answer-told (Refused number) No same = absurd (never-right same)
-answer-told (Refused number) (Refused other) same = ap Refused (same-wrong same)
+answer-told No (Refused number) same = absurd (omega (arith, same-place same))
+answer-told (Refused number) (Yes chamber start) same = absurd (omega (arith, same-place same))
+answer-told (Refused number) No same = absurd (omega (arith, same-place same))
+answer-told (Refused number) (Refused other) same = ap Refused (ap (λ answer. answer .refusal) same)
 
 -- 1d: each public function's contract admits a single outcome
 pub open-single : (chambers run : ℕ) → Single (λ outcome. outcome ≡ opened chambers run)
@@ -166,7 +170,7 @@ open-single chambers run = single-value (opened chambers run)
 
 pub take-single : (book : Book) (ready due : ℕ) → Single (Answered book ready (decided book ready due))
 take-single book ready due one other p q =
-    let answers : one .answer ≡ other .answer = single-answer asChoice answer-told (decided book ready due) (one .answer) (other .answer) (p .said) (q .said) in
+    let answers : one .answer ≡ other .answer = single-answer told answer-told (told (answerOf (decided book ready due))) (one .answer) (other .answer) (p .said) (q .said) in
     let books : one .book ≡ other .book = p .next ∙ sym (q .next) in
     λ i. record { answer = answers i; book = books i }
 

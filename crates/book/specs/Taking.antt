@@ -43,15 +43,34 @@ nextBook book ready (right (Chamber chamber start)) =
       free = set (book .free) (chamber - 1) (start + hold book);
     }
 
--- the paper's number and values for each case of the answer
-abbrev pub asChoice : Answer → Read Choice
-asChoice (Yes chamber start) = right (Chamber chamber start)
-asChoice No = right Nothing
-asChoice (Refused number) = wrong number
+-- "An order's answer is one of three: yes with chamber and start, no, or refused with a number"
+pub data Word : Type 0 where
+  yes : Word
+  no : Word
+  refused : Word
+
+-- an answer's word and its numbers
+pub record Told : Type 0 where
+  pub word : Word
+  pub refusal : ℕ
+  pub chamber : ℕ
+  pub start : ℕ
+
+-- the paper's word and numbers for each case of the answer: "Each refusal returns its number, and any other number in the answer is 0"
+abbrev pub told : Answer → Told
+told (Yes chamber start) = record { word = yes; refusal = 0; chamber = chamber; start = start }
+told No = record { word = no; refusal = 0; chamber = 0; start = 0 }
+told (Refused number) = record { word = refused; refusal = number; chamber = 0; start = 0 }
+
+-- the answer to what was decided
+abbrev pub answerOf : Read Choice → Answer
+answerOf (wrong number) = Refused number
+answerOf (right Nothing) = No
+answerOf (right (Chamber chamber start)) = Yes chamber start
 
 -- an order's answer and the next book are what was decided
 pub record Answered (book : Book) (ready : ℕ) (decision : Read Choice) (taken : Taken) : Type 0 where
-  pub said : asChoice (taken .answer) ≡ decision
+  pub said : told (taken .answer) ≡ told (answerOf decision)
   pub next : taken .book ≡ nextBook book ready decision
 
 -- what a step past the checks needs to know of the book and the choice
