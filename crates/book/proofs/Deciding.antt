@@ -7,11 +7,12 @@ use Rattle.ground.specs.Refusal.{Read, wrong, right, numberOf}
 use Rattle.ground.proofs.Refusal.{refused-by}
 use Rattle.book.specs.BestFit.{bestFit}
 use Rattle.book.specs.Taking.{decided, Settles}
+use Rattle.book.specs.Meaning.{Admitted}
 use Rattle.book.specs.declared.Book.{Book}
 use Rattle.book.specs.declared.Choice.{Choice}
 use Rattle.book.specs.declared.Choice.the-variants.{Nothing, Chamber}
 use Rattle.book.proofs.Choices.{Chosen, chosen}
-use Rattle.book.proofs.Refusals.{Admitted, by-choice, never-by-none}
+use Rattle.book.proofs.Refusals.{by-choice, never-by-none}
 
 -- no check refused the order
 pub record Passed (book : Book) (ready due : ℕ) : Type 0 where

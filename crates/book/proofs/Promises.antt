@@ -15,15 +15,14 @@ use Rattle.ground.proofs.Outcome.{single-answer, single-value}
 use Rattle.book.specs.Soundness.{allUpTo, allMet, soundness, isSound, freshBook, opened}
 use Rattle.book.specs.BestFit.{offer, bestFit}
 use Rattle.book.specs.Taking.{decided, nextBook, Word, yes, no, refused, Told, told, answerOf, Answered}
-use Rattle.book.specs.Meaning.{Sized, hourFor, BestFitting, NoneFits}
+use Rattle.book.specs.Meaning.{Sized, Sound, Admitted, hourFor, BestFitting, NoneFits}
 use Rattle.book.specs.History.{Order, bookAfter, loadsOf, Completes, SourceRejects, LowestSourceChoice}
 use Rattle.book.specs.Cases.{markedCases, unmarkedCases, holds, allHold}
 use Rattle.book.specs.declared.Book.{Book}
 use Rattle.book.specs.declared.Answer.the-variants.{Yes, No, Refused}
 use Rattle.book.specs.declared.Choice.the-variants.{Nothing, Chamber}
-use Rattle.book.proofs.Soundness.{Sound, fresh-sound}
+use Rattle.book.proofs.Soundness.{fresh-sound}
 use Rattle.book.proofs.Refusals as refusals
-use Rattle.book.proofs.Refusals.{Admitted}
 use Rattle.book.proofs.Choices as choices
 use Rattle.book.proofs.Steps as steps
 use Rattle.book.proofs.History as history

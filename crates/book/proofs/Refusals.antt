@@ -13,21 +13,14 @@ use Rattle.ground.proofs.Refusal.{never-right, same-right, same-wrong, passed-b
 use Rattle.book.specs.Soundness.{isSound}
 use Rattle.book.specs.BestFit.{bestFit}
 use Rattle.book.specs.Taking.{decided}
+use Rattle.book.specs.Meaning.{Sound, Admitted}
 use Rattle.book.specs.declared.Book.{Book}
 use Rattle.book.specs.declared.Choice.{Choice}
-use Rattle.book.proofs.Soundness.{Sound, sound-facts, sound-from}
+use Rattle.book.proofs.Soundness.{sound-facts, sound-from}
 
 either : {A B : Type 0} → (A → ⊥) → (B → ⊥) → A ⊎ B → ⊥
 either one other (inl a) = one a
 either one other (inr b) = other b
-
--- nothing is wrong with an order
-pub record Admitted (book : Book) (ready due : ℕ) : Type 0 where
-  pub sound : Sound book
-  pub ready-most : ready ≤ lastHour
-  pub due-most : due ≤ lastHour
-  pub room : book .taken < mostOrders
-  pub in-turn : book .clock ≤ ready
 
 module _ (book : Book) (ready due : ℕ) where
   -- what is left to check, from the last check to the first

@@ -14,6 +14,7 @@ use Rattle.ground.specs.Limits.{lastHour, mostChambers, longestRun, mostOrders}
 use Rattle.ground.proofs.Tests.{both, first-of, second-of}
 use Rattle.ground.proofs.Range.{within-from, within-low, within-high}
 use Rattle.book.specs.Soundness.{lastFreeHour, allUpTo, allMet, soundness, isSound, freshBook}
+use Rattle.book.specs.Meaning.{Sound}
 use Rattle.book.specs.declared.Book.{Book}
 
 -- hours within a limit, one after another
@@ -30,16 +31,7 @@ module _ (limit : ℕ) (hours : List ℕ) (at : ℕ) where
   unfolding allUpTo
   limit-end past = rw (drop-of-length-le hours past)
 
--- "A book is sound when", as facts
-pub record Sound (book : Book) : Type 0 where
-  pub chambers-range : (1 ≤ book .chambers) × (book .chambers ≤ mostChambers)
-  pub run-range : (1 ≤ book .run) × (book .run ≤ longestRun)
-  pub clock-most : book .clock ≤ lastHour
-  pub hours-most : allUpTo lastFreeHour (book .free) ≡ true
-  pub kept-most : book .kept ≤ book .taken
-  pub taken-most : book .taken ≤ mostOrders
-  pub others-free : allUpTo 0 (drop (book .chambers) (book .free)) ≡ true
-
+-- the test of a sound book gives its facts
 pub sound-facts : (book : Book) → isSound book ≡ true → Sound book
 unfolding isSound soundness allMet
 sound-facts book sound =

@@ -13,13 +13,12 @@ use Rattle.ground.specs.Refusal.{Read, wrong, right}
 use Rattle.ground.proofs.Tests.{both, first-of, second-of}
 use Rattle.book.specs.Soundness.{lastFreeHour, allUpTo}
 use Rattle.book.specs.Taking.{decided, nextBook}
-use Rattle.book.specs.Meaning.{Sized, BestFitting, NoneFits}
+use Rattle.book.specs.Meaning.{Sized, Sound, Admitted, BestFitting, NoneFits}
 use Rattle.book.specs.declared.Book.{Book}
 use Rattle.book.specs.declared.Choice.{Choice}
 use Rattle.book.specs.declared.Choice.the-variants.{Nothing, Chamber}
 use Rattle.book.proofs.Choices.{Chosen, chosen, best-exactly, none-exactly}
-use Rattle.book.proofs.Soundness.{Sound}
-use Rattle.book.proofs.Refusals.{Admitted, by-choice}
+use Rattle.book.proofs.Refusals.{by-choice}
 
 -- an hour within the limit may be stored among others that are
 all-set : (limit : ℕ) (hours : List ℕ) (at hour : ℕ) → hour ≤ limit → allUpTo limit hours ≡ true → allUpTo limit (set hours at hour) ≡ true
