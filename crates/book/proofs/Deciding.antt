@@ -6,7 +6,8 @@ use native.Mathlib.Omega.{arith}
 use Rattle.ground.specs.Refusal.{Read, wrong, right, numberOf}
 use Rattle.ground.proofs.Refusal.{refused-by}
 use Rattle.book.specs.BestFit.{bestFit}
-use Rattle.book.specs.Taking.{decided, Settles}
+use Rattle.book.specs.Taking.{decided}
+use Rattle.book.specs.Settling.{Settles}
 use Rattle.book.specs.Meaning.{Admitted}
 use Rattle.book.specs.declared.Book.{Book}
 use Rattle.book.specs.declared.Choice.{Choice}

@@ -47,6 +47,12 @@ opening-refused-by-four chambers run =
       λ out. refl,
     ))
 
+-- and then the book has every field 0
+pub opening-refused-empty : (chambers run : ℕ) → opened chambers run .refusal ≡ 4 → opened chambers run .book ≡ freshBook 0 0
+unfolding opened
+opening-refused-empty chambers run =
+    by-test (within 1 mostChambers chambers && within 1 longestRun run) (λ inside. rw inside (λ e. absurd (omega arith))) (λ outside. rw outside (λ e. refl))
+
 -- a book that was opened is fresh, and sound
 pub opened-fresh :
     (chambers run : ℕ) → (1 ≤ chambers) × (chambers ≤ mostChambers) × (1 ≤ run) × (run ≤ longestRun)

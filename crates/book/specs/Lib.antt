@@ -5,3 +5,4 @@ pub mod Taking
 pub mod Meaning
 pub mod History
 pub mod Cases
+pub mod Settling

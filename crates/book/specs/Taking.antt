@@ -1,10 +1,10 @@
 -- What a book answers to an order, and the next book. Assumes nothing.
-use Prim.Native.Nat.{ℕ, _+_, _-_, _≤_, _<_}
+use Prim.Native.Nat.{ℕ, _+_, _-_}
 use mathlib.Core.Path.{_≡_}
 use lib.ListN.{take, set}
 use lib.Dec.{leb, ltb}
 use Rattle.ground.specs.Refusal.{Read, wrong, right, check, _>>_}
-use Rattle.ground.specs.Limits.{lastHour, mostChambers, mostOrders}
+use Rattle.ground.specs.Limits.{lastHour, mostOrders}
 use Rattle.book.specs.Soundness.{isSound}
 use Rattle.book.specs.BestFit.{bestFit}
 use Rattle.book.specs.declared.Choice.{Choice}
@@ -72,9 +72,3 @@ answerOf (right (Chamber chamber start)) = Yes chamber start
 pub record Answered (book : Book) (ready : ℕ) (decision : Read Choice) (taken : Taken) : Type 0 where
   pub said : told (taken .answer) ≡ told (answerOf decision)
   pub next : taken .book ≡ nextBook book ready decision
-
--- what a step past the checks needs to know of the book and the choice
-abbrev pub Settles : Book → Choice → Type 0
-Settles book Nothing = book .taken < mostOrders
-Settles book (Chamber chamber start) =
-    (book .taken < mostOrders) × (book .kept ≤ book .taken) × (1 ≤ chamber) × (chamber ≤ mostChambers) × (start + book .run ≤ lastHour)

@@ -9,7 +9,8 @@ ghost use Rattle.ground.specs.Range.{within};
 ghost use Rattle.ground.specs.Refusal.{right, numberOf};
 ghost use Rattle.book.specs.Soundness.{lastFreeHour, allUpTo, isSound, freshBook, opened};
 ghost use Rattle.book.specs.BestFit.{offer, better, bestFit};
-ghost use Rattle.book.specs.Taking.{decided, Settles, Answered};
+ghost use Rattle.book.specs.Taking.{decided, told, Answered};
+ghost use Rattle.book.specs.Settling.{Settles};
 
 // How many free hours a book holds: one for each chamber that there can be.
 const FREE_HOURS: usize = ground::MOST_CHAMBERS as usize;
@@ -35,7 +36,7 @@ pub enum Answer {
 }
 
 // The chamber chosen and the start there, or nothing where none fits.
-pub enum Choice {
+enum Choice {
     Nothing,
     Chamber { chamber: u32, start: u32 },
 }
@@ -189,14 +190,19 @@ impl Book {
     {
         let refusal = refusal_of(self, ready, due);
         if refusal != 0 {
-            return Taken {
-                answer: Answer::Refused(refusal),
-                book: self,
-            };
+            return refused(self, refusal);
         }
         let choice = choose(self, ready, due);
         settle(self, ready, choice)
     }
+}
+
+// A refusal: its number, and the book as it was handed in.
+fn refused(book: Book, number: u32) -> Taken
+    ensures { λ r. ⌜ (told (r .answer) ≡ told (Answer.Refused number)) × (r .book ≡ book) ⌝ }
+{
+    let answer = Answer::Refused(number);
+    Taken { answer, book }
 }
 
 // The choice of a book for an order.

@@ -10,11 +10,15 @@ use Rattle.book.proofs.Book.take.Tie as tie
 refusal-of-requires : tie.Need-refusal-of-requires
 refusal-of-requires c κs = search needs
 
+refused-requires : tie.Need-refused-requires
+refused-requires c κs = search needs
+
 returns : tie.Need-returns
 returns c =
-    let a = c .before .before .args in
-    rw (refused-order (a .self) (a .ready) (a .due) (c .before .refusal-of .result) (c .before .refusal-of .ensures) (λ none. omega arith))
-    (record { said = refl; next = refl })
+    let k = c .before .before in
+    let a = k .before .args in
+    rw (refused-order (a .self) (a .ready) (a .due) (k .refusal-of .result) (k .refusal-of .ensures) (λ none. omega (arith, c .before .if1 .taken)))
+    (record { said = c .refused .ensures .0; next = c .refused .ensures .1 })
 
 choose-requires : tie.Need-choose-requires
 choose-requires c κs =
@@ -37,4 +41,4 @@ returns-2 c =
 
 pub take-spec : {M : Type 1} → statement M
 take-spec =
-    tie.close (tie.spec refusal-of-requires returns choose-requires settle-requires returns-2)
+    tie.close (tie.spec refusal-of-requires refused-requires returns choose-requires settle-requires returns-2)

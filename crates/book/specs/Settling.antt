@@ -1,0 +1,12 @@
+-- What the functions behind the checks ask of their callers in this room, so that no sum wraps and every place lies in the array. No promise speaks of it. Assumes nothing.
+use Prim.Native.Nat.{ℕ, _+_, _≤_, _<_}
+use Rattle.ground.specs.Limits.{lastHour, mostChambers, mostOrders}
+use Rattle.book.specs.declared.Book.{Book}
+use Rattle.book.specs.declared.Choice.{Choice}
+use Rattle.book.specs.declared.Choice.the-variants.{Nothing, Chamber}
+
+-- there is room for one more order, and a chosen chamber is one of those that there can be, with a load that ends by the last hour
+abbrev pub Settles : Book → Choice → Type 0
+Settles book Nothing = book .taken < mostOrders
+Settles book (Chamber chamber start) =
+    (book .taken < mostOrders) × (book .kept ≤ book .taken) × (1 ≤ chamber) × (chamber ≤ mostChambers) × (start + book .run ≤ lastHour)
