@@ -158,7 +158,7 @@ same-place : {one other : Told} → one ≡ other → place (one .word) ≡ plac
 same-place = ap (λ answer. place (answer .word))
 
 -- the paper's word and numbers tell the cases of an answer apart
-answer-told : Injective told
+pub answer-told : Injective told
 answer-told (Yes chamber start) (Yes other begins) same = rw (ap (λ answer. answer .chamber) same, ap (λ answer. answer .start) same)
 answer-told (Yes chamber start) No same = absurd (omega (arith, same-place same))
 answer-told (Yes chamber start) (Refused number) same = absurd (omega (arith, same-place same))

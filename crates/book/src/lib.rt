@@ -36,7 +36,7 @@ pub enum Answer {
 }
 
 // The chamber chosen and the start there, or nothing where none fits.
-enum Choice {
+pub enum Choice {
     Nothing,
     Chamber { chamber: u32, start: u32 },
 }

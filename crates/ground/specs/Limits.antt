@@ -20,3 +20,7 @@ longestRun = 9_999
 -- "the book has taken 512 orders"
 abbrev pub mostOrders : ℕ
 mostOrders = 512
+
+-- "An order list is at most 65,536 bytes, and so is a plan"
+abbrev pub longestText : ℕ
+longestText = 65_536

@@ -15,3 +15,6 @@ pub const LONGEST_RUN: u32 = 9_999;
 
 // How many orders a book takes.
 pub const MOST_ORDERS: u32 = 512;
+
+// How many bytes an order list or a plan can have.
+pub const LONGEST_TEXT: usize = 65_536;

@@ -43,11 +43,11 @@ clean-digits [] rest all clean = clean
 clean-digits (byte ∷ word) rest all clean =
     clean-digit byte (word ++ rest) (first-of (isDigit byte) (allDigits word) all) (clean-digits word rest (second-of (isDigit byte) (allDigits word) all) clean)
 
-clean-number : (number : ℕ) → isClean (spelled number) ≡ true
+pub clean-number : (number : ℕ) → isClean (spelled number) ≡ true
 unfolding isClean
 clean-number number = rw append-nil at (clean-digits (spelled number) [] (spelled-digits number) refl)
 
-clean-hour : (hour : ℕ) → isClean (hourText comma hour) ≡ true
+pub clean-hour : (hour : ℕ) → isClean (hourText comma hour) ≡ true
 unfolding isClean hourText
 clean-hour hour =
     let tail : isClean (lastDigit (hour / 10) ∷ lastDigit hour ∷ []) ≡ true =

@@ -1,0 +1,88 @@
+-- What this room promises, about the very definitions that its contracts cite. Each is a line over a law of this folder. Assumes nothing.
+use Prim.Native.Nat.{ℕ, suc, _≤_, _<_}
+use mathlib.Core.Path.{_≡_, refl, sym, ap, _∙_}
+use mathlib.Core.Logic.{_↔_}
+use mathlib.Core.List.{List, [], _∷_, _++_}
+use lib.ListN.{length}
+use Rattle.ground.specs.Refusal.{Read, wrong, right}
+use Rattle.ground.specs.Limits.{longestText}
+use Rattle.ground.specs.Outcome.{Single}
+use Rattle.ground.proofs.Outcome.{single-answer, single-value}
+use Rattle.lines.specs.Lines.{linesOf, lineLength, lineAt}
+use Rattle.lines.specs.Fields.{isEnded, shapeOf}
+use Rattle.lines.specs.Reading.{headingOf, orderOf}
+use Rattle.lines.specs.Meaning.{HeadingFault}
+use Rattle.lines.specs.declared.reading.Order.{Order}
+use Rattle.book.specs.Taking.{told, answerOf}
+use Rattle.book.specs.declared.Book.{Book}
+use Rattle.book.specs.declared.Answer.the-variants.{Refused}
+use Rattle.book.proofs.Promises.{answer-told}
+use Rattle.orders.specs.Answers.{opening, orderLines, answersFrom, decision, bookPast, begunBy, progressPast, Stepped}
+use Rattle.orders.specs.Replies.{sumLine, numbered, repliesBy, replyOf}
+use Rattle.orders.specs.Meaning.{GoneThrough, yeses, CleanList}
+use Rattle.orders.specs.declared.answers.Progress.{Progress}
+use Rattle.orders.proofs.Beginning as beginning
+use Rattle.orders.proofs.Walking as walking
+use Rattle.orders.proofs.Counting as counting
+use Rattle.orders.proofs.ReplyText as replies
+
+-- 1b: a list is refused by 9 exactly when it is longer than 65,536 bytes
+pub refused-by-nine : (text : List ℕ) → (opening text ≡ wrong 9) ↔ (longestText < length text)
+refused-by-nine = beginning.refused-by-nine
+
+-- by another number exactly when it is not, and that is the first fault of its first line; an empty text has the empty line
+pub refused-by-its-first-line :
+    (text : List ℕ) (number : ℕ) → (number ≡ 9 → ⊥) → (opening text ≡ wrong number) ↔ ((length text ≤ longestText) × HeadingFault (lineAt text 0) number)
+refused-by-its-first-line = beginning.refused-by-its-first-line
+
+-- an empty text is refused by 1
+pub refused-empty : opening [] ≡ wrong 1
+unfolding opening headingOf shapeOf isEnded lineAt lineLength
+refused-empty = refl
+
+-- 1c: a refused line leaves the book as it stood
+pub refused-line-stays : (book : Book) (order : Read Order) (number : ℕ) → decision book order ≡ wrong number → bookPast book order ≡ book
+refused-line-stays = counting.refused-line-stays
+
+-- and the list goes on with the next line
+pub refused-line-goes-on :
+    (book : Book) (line : List ℕ) (lines : List (List ℕ)) (number : ℕ) → decision book (orderOf line) ≡ wrong number
+    → answersFrom book (line ∷ lines) ≡ Refused number ∷ answersFrom book lines
+refused-line-goes-on = counting.refused-line-goes-on
+
+-- going through a list that begins line by line, from its beginning to its end, gives the replies of its definition and no others
+pub gone-through-exactly :
+    (text : List ℕ) (book : Book) → opening text ≡ right book → (replies : List (List ℕ))
+    → GoneThrough text (begunBy text (opening text) .progress) replies ↔ (replies ≡ repliesBy text (opening text))
+gone-through-exactly = walking.gone-through-exactly
+
+-- while a line is left the place moves on, so that going through ends
+pub moves-on : (text : List ℕ) (progress : Progress) → progress .at < length text → progress .at < progressPast text progress .at
+moves-on = walking.moves-on
+
+-- the lines of the whole reply are these replies
+pub reply-lines : (text : List ℕ) → linesOf (replyOf text) ≡ repliesBy text (opening text)
+reply-lines = replies.reply-lines
+
+-- a list that begins has a reply for each line after the first, and the sum
+pub replies-counted : (text : List ℕ) (book : Book) → opening text ≡ right book → length (linesOf (replyOf text)) ≡ suc (length (orderLines text))
+replies-counted text book begun = ap length (reply-lines text ∙ ap (repliesBy text) begun) ∙ counting.replies-length 2 book (orderLines text)
+
+-- the reply to a clean list: a line for each order, and the sum with the number of orders and the number of yeses
+pub clean-reply :
+    (text : List ℕ) (book : Book) → CleanList text book
+    → linesOf (replyOf text)
+    ≡ numbered 2 (answersFrom book (orderLines text)) ++ sumLine (length (orderLines text)) (yeses (answersFrom book (orderLines text))) ∷ []
+clean-reply text book clean = reply-lines text ∙ ap (repliesBy text) (clean .begun) ∙ counting.clean-replies text book clean
+
+-- 1d: each public function's contract admits a single outcome
+pub begin-single : (text : List ℕ) → Single (λ outcome. outcome ≡ begunBy text (opening text))
+begin-single text = single-value (begunBy text (opening text))
+
+pub next-single : (text : List ℕ) (progress : Progress) → Single (Stepped text progress)
+next-single text progress one other p q =
+    let answers : one .answer ≡ other .answer =
+    single-answer told answer-told (told (answerOf (decision (progress .book) (orderOf (lineAt text (progress .at)))))) (one .answer) (other .answer) (p .said)
+    (q .said) in
+    let places : one .progress ≡ other .progress = p .next ∙ sym (q .next) in
+    λ i. record { answer = answers i; progress = places i }

@@ -1,0 +1,88 @@
+//! The lines of a text and the reading of an order list's lines.
+//!
+//! Assumes that fields are parted by one tab (byte 9) and that a line ends
+//! with byte 10. A line is handed about with its line end, so that the last
+//! line can be seen to lack one.
+
+use crate::book::{LONGEST_RUN, MOST_CHAMBERS};
+use crate::hours::read_hour;
+use crate::numbers::read_plain_number;
+use crate::refusal::Refusal;
+
+pub const TAB: u8 = 9;
+pub const LINE_END: u8 = 10;
+
+/// The most bytes that a list or a plan handed over whole may have.
+pub const LONGEST_TEXT: usize = 65_536;
+
+/// The highest grower number.
+const LAST_GROWER: u32 = 9_999;
+
+#[derive(Clone, Copy, Debug, PartialEq, Eq)]
+pub struct Heading {
+    pub chambers: u32,
+    pub run: u32,
+}
+
+#[derive(Clone, Copy, Debug, PartialEq, Eq)]
+pub struct Order {
+    pub grower: u32,
+    pub ready: u32,
+    pub due: u32,
+}
+
+/// The lines from the top, each with its line end. An empty text has none,
+/// and bytes after the last line end come as one more line.
+pub fn lines(text: &[u8]) -> impl Iterator<Item = &[u8]> {
+    text.split_inclusive(|&byte| byte == LINE_END)
+}
+
+/// Reads the first line of an order list.
+pub fn read_heading(line: &[u8]) -> Result<Heading, Refusal> {
+    let [word, chambers, run] = three_fields(line)?;
+    if word != b"steam" {
+        return Err(Refusal::Shape);
+    }
+    Ok(Heading {
+        chambers: within(number_field(chambers)?, 1, MOST_CHAMBERS)?,
+        run: within(hour_field(run)?, 1, LONGEST_RUN)?,
+    })
+}
+
+/// Reads any further line of an order list.
+pub fn read_order(line: &[u8]) -> Result<Order, Refusal> {
+    let [grower, ready, due] = three_fields(line)?;
+    Ok(Order {
+        grower: within(number_field(grower)?, 1, LAST_GROWER)?,
+        ready: hour_field(ready)?,
+        due: hour_field(due)?,
+    })
+}
+
+/// The three fields of an ended line. Empty fields count.
+fn three_fields(line: &[u8]) -> Result<[&[u8]; 3], Refusal> {
+    let Some((&LINE_END, content)) = line.split_last() else {
+        return Err(Refusal::Shape);
+    };
+    let mut fields = content.split(|&byte| byte == TAB);
+    match (fields.next(), fields.next(), fields.next(), fields.next()) {
+        (Some(first), Some(second), Some(third), None) => Ok([first, second, third]),
+        _ => Err(Refusal::Shape),
+    }
+}
+
+fn number_field(field: &[u8]) -> Result<u32, Refusal> {
+    read_plain_number(field).ok_or(Refusal::NotPlainNumber)
+}
+
+fn hour_field(field: &[u8]) -> Result<u32, Refusal> {
+    read_hour(field).ok_or(Refusal::NotHour)
+}
+
+fn within(number: u32, least: u32, most: u32) -> Result<u32, Refusal> {
+    if (least..=most).contains(&number) {
+        Ok(number)
+    } else {
+        Err(Refusal::OutOfRange)
+    }
+}
