@@ -22,6 +22,8 @@ pub struct Manner {
     pub grain: u32,
     /// Of ten due hours, so many lie about the end of a possible load.
     pub edges: u32,
+    /// Every order is due late enough for at least one chamber.
+    pub roomy: bool,
     pub spelling: Spelling,
 }
 
@@ -43,6 +45,7 @@ pub fn plain_manner(chance: &mut Chance) -> Manner {
         step: run / chance.pick(&[1, 2, 4, 8]),
         grain,
         edges: 3,
+        roomy: false,
         spelling: chance.pick(&[Spelling::Shortest, Spelling::Written, Spelling::Any]),
     }
 }
@@ -67,6 +70,7 @@ pub fn tight_manner(chance: &mut Chance) -> Manner {
         step: run / chance.pick(&[1, 2, 4, 8, 16]),
         grain: 1,
         edges: 8,
+        roomy: false,
         spelling: chance.pick(&[Spelling::Shortest, Spelling::Any]),
     }
 }
@@ -77,6 +81,18 @@ pub fn late_manner(chance: &mut Chance) -> Manner {
     let remaining = manner.heading.run * chance.between(0, 4) + chance.between(0, 40);
     manner.opening = LAST_HOUR.saturating_sub(remaining);
     manner.step = chance.pick(&[0, 1, 3, manner.heading.run / 4]);
+    manner
+}
+
+/// Orders of which a desk keeps every one, as many as the book takes.
+pub fn roomy_manner(chance: &mut Chance) -> Manner {
+    let mut manner = tight_manner(chance);
+    // 512 such runs in one chamber, one behind the other, end by the last
+    // hour, and ready never leaps over a whole run.
+    manner.heading.run = chance.pick(&[1, 7, 300, 1_000, 1_900]);
+    manner.step = manner.heading.run / chance.pick(&[2, 4, 16]);
+    manner.opening = 0;
+    manner.roomy = true;
     manner
 }
 
@@ -122,6 +138,10 @@ fn ready_hour(chance: &mut Chance, manner: &Manner, book: &Book) -> u32 {
 fn due_hour(chance: &mut Chance, manner: &Manner, book: &Book, ready: u32) -> u32 {
     let run = manner.heading.run;
     let end = free_hour(chance, book).max(ready) + run;
+    if manner.roomy {
+        let spare = chance.pick(&[0, 0, 1, run, 3 * run]);
+        return (end + spare).min(LAST_HOUR);
+    }
     let due = if chance.below(10) < manner.edges {
         match chance.below(6) {
             0 | 1 => end - manner.grain.min(end),

@@ -1,20 +1,16 @@
-//! The comparison of another desk program with this one's desk.
+//! The comparison of another program with this one over many seeds: the
+//! turns, the findings and the account of two replies that differ.
 //!
-//! Assumes that the other program reads a list from its standard input until
-//! it ends, prints its reply and then ends with success. It may stop reading
-//! early. Every generated list is printed about by both, and the two replies
-//! must agree in every byte.
+//! Assumes that the other program ends with success and prints its reply on
+//! its standard output, and that the two replies must agree in every byte.
 
-use std::io::{self, Read, Write};
-use std::process::{ChildStdin, Command, ExitStatus, Stdio};
+use std::io;
+use std::process::ExitStatus;
 use std::sync::atomic::{AtomicU64, Ordering};
 use std::thread;
-use std::time::Duration;
 
-use crate::desk;
 use crate::lines::lines;
-use crate::lists::list;
-use crate::show::{numbered_lines, readable_line};
+use crate::show::readable_line;
 
 /// So many inputs are tried side by side.
 const WORKERS: usize = 2;
@@ -51,21 +47,30 @@ impl Findings {
     }
 }
 
-/// How a list is handed to the other program.
-#[derive(Clone, Copy)]
-struct Feeding {
-    chunk: usize,
-    /// After so many of the first chunks there is a pause, as the program
-    /// would otherwise find them all waiting and read them at once.
-    pauses: usize,
+/// The reply of the other program to one input, and how it ended.
+pub struct Outcome {
+    pub printed: Vec<u8>,
+    pub status: ExitStatus,
 }
 
-/// Compares the replies to so many lists, from the first seed on.
-pub fn compare(count: u64, first_seed: u64, program: &str) -> io::Result<Findings> {
+/// Tries so many seeds from the first on. Each worker is made ready first, and
+/// then tries one seed after another; a try gives an account if the replies
+/// differ.
+pub fn compare<Try>(
+    count: u64,
+    first_seed: u64,
+    make_ready: impl Fn(usize) -> io::Result<Try> + Sync,
+) -> io::Result<Findings>
+where
+    Try: FnMut(u64) -> io::Result<Option<String>>,
+{
     let next_turn = AtomicU64::new(0);
-    let work = || compare_until(count, &next_turn, first_seed, program);
+    let work = |worker| take_turns(count, &next_turn, first_seed, make_ready(worker)?);
     thread::scope(|scope| {
-        let workers: Vec<_> = (0..WORKERS).map(|_| scope.spawn(work)).collect();
+        let work = &work;
+        let workers: Vec<_> = (0..WORKERS)
+            .map(|worker| scope.spawn(move || work(worker)))
+            .collect();
         let mut findings = Findings::default();
         for worker in workers {
             findings.join(worker.join().expect("a worker does not panic")?);
@@ -75,11 +80,11 @@ pub fn compare(count: u64, first_seed: u64, program: &str) -> io::Result<Finding
 }
 
 /// Takes turns until all are taken.
-fn compare_until(
+fn take_turns(
     count: u64,
     next_turn: &AtomicU64,
     first_seed: u64,
-    program: &str,
+    mut try_seed: impl FnMut(u64) -> io::Result<Option<String>>,
 ) -> io::Result<Findings> {
     let mut findings = Findings::default();
     loop {
@@ -87,83 +92,42 @@ fn compare_until(
         if turn >= count {
             return Ok(findings);
         }
-        let seed = first_seed.wrapping_add(turn);
-        if let Some(account) = compare_one(seed, program)? {
+        if let Some(account) = try_seed(first_seed.wrapping_add(turn))? {
             findings.add(Difference { turn, account });
         }
     }
 }
 
-/// An account of the difference, if the replies to this seed's list differ.
-fn compare_one(seed: u64, program: &str) -> io::Result<Option<String>> {
-    let made = list(seed);
-    let expected = desk::reply(&made.text);
-    let feeding = feeding_of(seed, made.text.len());
-    let (printed, status) = run(program, &made.text, feeding)?;
-    if printed == expected && status.success() {
-        return Ok(None);
+impl Outcome {
+    /// Whether the program did as this one does.
+    pub fn agrees(&self, expected: &[u8]) -> bool {
+        self.printed == expected && self.status.success()
     }
-    let mut account = format!("seed {seed}, kind {}, ", made.kind);
-    account += &format!("handed over in chunks of {} bytes\n", feeding.chunk);
-    let place = first_differing_line(&expected, &printed);
-    // Behind a good first line the reply begins with the answer to line 2.
-    let first_answered = if expected.starts_with(b"1\t") { 1 } else { 2 };
-    account += &numbered_lines(&made.text, place + first_answered);
-    if printed != expected {
-        account += &format!("line {} of the reply\n", place + 1);
-        account += &format!("  oracle: {}\n", shown_line(&expected, place));
-        account += &format!("  other:  {}\n", shown_line(&printed, place));
-    }
-    if !status.success() {
-        account += &format!("the other program failed: {status}\n");
-    }
-    Ok(Some(account))
-}
 
-/// Small chunks only for short lists, as each costs time.
-fn feeding_of(seed: u64, length: usize) -> Feeding {
-    let (chunk, pauses) = match seed % 8 {
-        0 if length <= 300 => (1, 24),
-        1 if length <= 8_000 => (7, 24),
-        2 | 3 if length > 4_095 => (4_095, 24),
-        _ => (length.max(1), 0),
-    };
-    Feeding { chunk, pauses }
-}
-
-/// Runs the program with the list on its standard input. A thread of its own
-/// writes the list, because the program may print before it has read all.
-fn run(program: &str, list: &[u8], feeding: Feeding) -> io::Result<(Vec<u8>, ExitStatus)> {
-    let mut child = Command::new(program)
-        .stdin(Stdio::piped())
-        .stdout(Stdio::piped())
-        .spawn()
-        .map_err(|trouble| io::Error::new(trouble.kind(), format!("{program}: {trouble}")))?;
-    let input = child.stdin.take().expect("standard input is a pipe");
-    let mut output = child.stdout.take().expect("standard output is a pipe");
-    let mut printed = Vec::new();
-    thread::scope(|scope| {
-        scope.spawn(|| feed(input, list, feeding));
-        output.read_to_end(&mut printed)
-    })?;
-    Ok((printed, child.wait()?))
-}
-
-/// Writes the list and closes the pipe. A program that has read enough may
-/// close it sooner; its reply shows whether it had.
-fn feed(mut input: ChildStdin, list: &[u8], feeding: Feeding) {
-    for (place, chunk) in list.chunks(feeding.chunk).enumerate() {
-        if input.write_all(chunk).is_err() {
-            return;
+    /// The first line in which the replies differ, as each has it, and how the
+    /// program ended if not with success.
+    pub fn account(&self, expected: &[u8]) -> String {
+        let mut account = String::new();
+        if self.printed != expected {
+            let place = first_differing_line(expected, &self.printed);
+            account += &format!("line {} of the reply\n", place + 1);
+            account += &format!("  oracle: {}\n", shown_line(expected, place));
+            account += &format!("  other:  {}\n", shown_line(&self.printed, place));
         }
-        if place < feeding.pauses {
-            thread::sleep(Duration::from_micros(100));
+        if !self.status.success() {
+            account += &format!("the other program failed: {}\n", self.status);
         }
+        account
     }
+}
+
+/// Says which program it was that could not be run.
+pub fn not_run(program: &str, trouble: io::Error) -> io::Error {
+    io::Error::new(trouble.kind(), format!("{program}: {trouble}"))
 }
 
 /// The place, counted from 0, of the first line that the replies do not share.
-fn first_differing_line(expected: &[u8], printed: &[u8]) -> usize {
+pub fn first_differing_line(expected: &[u8], printed: &[u8]) -> usize {
     lines(expected)
         .zip(lines(printed))
         .take_while(|(ours, theirs)| ours == theirs)

@@ -5,7 +5,8 @@
 
 use crate::desk;
 use crate::lines::{lines, TAB};
-use crate::{lists, plans};
+use crate::lists::{self, Program};
+use crate::plans;
 
 /// The answers counted, as the first words after the line number.
 const ANSWERS: [&str; 9] = ["yes", "no", "1", "2", "3", "4", "5", "6", "9"];
@@ -21,7 +22,7 @@ struct Row {
 
 /// The table for so many seeds from the first on.
 pub fn coverage(count: u64, first_seed: u64) -> String {
-    let mut rows: Vec<Row> = lists::kind_names().map(empty_row).collect();
+    let mut rows: Vec<Row> = lists::kind_names(Program::Desk).map(empty_row).collect();
     let mut all = empty_row("answers in all");
     let mut met = empty_row("inputs with it");
     let mut longest = 0;
@@ -93,11 +94,20 @@ fn line_of(row: &Row) -> String {
 }
 
 fn plan_table(count: u64, first_seed: u64) -> String {
-    let mut table = format!("{:16}{:>8}\n", "plans", "inputs");
     let kinds: Vec<&str> = (0..count)
         .map(|turn| plans::plan(first_seed.wrapping_add(turn)).kind)
         .collect();
-    for name in plans::kind_names() {
+    kind_table("plans", plans::kind_names(), &kinds)
+}
+
+/// How many inputs there are of each kind by name.
+pub fn kind_table(
+    title: &str,
+    names: impl Iterator<Item = &'static str>,
+    kinds: &[&str],
+) -> String {
+    let mut table = format!("{title:16}{:>8}\n", "inputs");
+    for name in names {
         let inputs = kinds.iter().filter(|kind| **kind == name).count();
         table += &format!("{name:16}{inputs:8}\n");
     }

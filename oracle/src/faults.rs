@@ -224,6 +224,22 @@ pub fn damage(chance: &mut Chance, line: &mut Vec<u8>, shape: &Shape) {
     }
 }
 
+/// Makes most fields bad or strange, so that one line meets several refusals.
+pub fn damage_fields(chance: &mut Chance, line: &mut Vec<u8>, shape: &Shape) {
+    for (place, field) in shape.iter().enumerate() {
+        if chance.one_in(3) {
+            continue;
+        }
+        let texts = match field {
+            Field::Word => BAD_WORDS,
+            Field::Number if chance.one_in(2) => OUTSIDE_NUMBERS,
+            Field::Number => BAD_NUMBERS,
+            Field::Hour => BAD_HOURS,
+        };
+        replace_field(line, place, chance.pick(texts).to_vec());
+    }
+}
+
 fn bad_field(chance: &mut Chance, line: &mut Vec<u8>, shape: &Shape) {
     let place = chance.place(shape.len());
     let texts = match shape[place] {
@@ -254,7 +270,7 @@ fn outside_number(chance: &mut Chance, line: &mut Vec<u8>, shape: &Shape) {
 
 /// Brings the ready hour forward, so that it may fall below the clock. Orders
 /// are often ready at the clock, so one hundredth is often enough.
-fn earlier_ready(chance: &mut Chance, line: &mut Vec<u8>, _: &Shape) {
+pub fn earlier_ready(chance: &mut Chance, line: &mut Vec<u8>, _: &Shape) {
     if let Ok(order) = read_order(line) {
         let earlier = match chance.below(3) {
             0 => chance.between(0, order.ready),

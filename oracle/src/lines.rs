@@ -1,4 +1,4 @@
-//! The lines of a text and the reading of an order list's lines.
+//! The lines of a text and the reading of a list's and a plan's lines.
 //!
 //! Assumes that fields are parted by one tab (byte 9) and that a line ends
 //! with byte 10. A line is handed about with its line end, so that the last
@@ -31,6 +31,14 @@ pub struct Order {
     pub due: u32,
 }
 
+/// What a plan line asks for.
+#[derive(Clone, Copy, Debug, PartialEq, Eq)]
+pub struct Load {
+    pub order_line: u32,
+    pub chamber: u32,
+    pub start: u32,
+}
+
 /// The lines from the top, each with its line end. An empty text has none,
 /// and bytes after the last line end come as one more line.
 pub fn lines(text: &[u8]) -> impl Iterator<Item = &[u8]> {
@@ -56,6 +64,17 @@ pub fn read_order(line: &[u8]) -> Result<Order, Refusal> {
         grower: within(number_field(grower)?, 1, LAST_GROWER)?,
         ready: hour_field(ready)?,
         due: hour_field(due)?,
+    })
+}
+
+/// Reads a line of a plan whose list has so many chambers. The order line may
+/// be any plain number: whether it names an order is no matter of the line.
+pub fn read_load(line: &[u8], chambers: u32) -> Result<Load, Refusal> {
+    let [order_line, chamber, start] = three_fields(line)?;
+    Ok(Load {
+        order_line: number_field(order_line)?,
+        chamber: within(number_field(chamber)?, 1, chambers)?,
+        start: hour_field(start)?,
     })
 }
 

@@ -1,4 +1,4 @@
-//! Generated order lists, one for each seed.
+//! Generated order lists, for the desk one for each seed.
 //!
 //! Assumes that the seed alone decides: the kind of the list is drawn first,
 //! then everything in it. Most kinds are short, so that many lists can be
@@ -6,8 +6,8 @@
 
 use crate::book::MOST_TAKEN;
 use crate::chance::Chance;
-use crate::clean::{clean_lines, late_manner, plain_manner, tight_manner};
-use crate::faults::{damage, HEADING, ORDER};
+use crate::clean::{clean_lines, late_manner, plain_manner, roomy_manner, tight_manner};
+use crate::faults::{damage, earlier_ready, HEADING, ORDER};
 use crate::noise::{any_bytes, hour_noise_line, length_about_limit, line_bytes, stretch};
 use crate::spelling::Spelling;
 
@@ -17,43 +17,74 @@ pub struct Made {
     pub text: Vec<u8>,
 }
 
+/// The program that a list is made for.
+#[derive(Clone, Copy)]
+pub enum Program {
+    Desk,
+    Checker,
+}
+
 struct Kind {
     name: &'static str,
-    weight: u32,
+    /// How often the kind is drawn for each program. The checker looks at a
+    /// plan only behind a clean list, so about three of its four are clean.
+    weights: [u32; 2],
     make: fn(&mut Chance) -> Vec<u8>,
 }
 
-const KINDS: [Kind; 12] = [
-    kind("clean", 100, clean),
-    kind("nearly clean", 150, nearly_clean),
-    kind("damaged", 180, damaged),
-    kind("tight", 155, tight),
-    kind("late", 80, late),
-    kind("spelled", 60, spelled),
-    kind("noise", 30, noise),
-    kind("headed noise", 70, headed_noise),
-    kind("first line", 100, first_line),
-    kind("over 512", 40, over_full),
-    kind("at the limit", 30, about_limit),
-    kind("empty", 5, empty),
+const KINDS: [Kind; 16] = [
+    kind("clean", [100, 200], clean),
+    kind("nearly clean", [150, 60], nearly_clean),
+    kind("damaged", [180, 30], damaged),
+    kind("tight", [155, 230], tight),
+    kind("late", [80, 110], late),
+    kind("spelled", [60, 90], spelled),
+    kind("noise", [30, 10], noise),
+    kind("headed noise", [70, 10], headed_noise),
+    kind("first line", [100, 45], first_line),
+    kind("over 512", [40, 15], over_full),
+    kind("at the limit", [30, 45], about_limit),
+    kind("empty", [5, 15], empty),
+    kind("512 orders", [0, 30], just_full),
+    kind("512 kept", [0, 90], all_kept),
+    kind("one too many", [0, 25], one_too_many),
+    kind("below the clock", [0, 35], below_clock),
 ];
 
-const fn kind(name: &'static str, weight: u32, make: fn(&mut Chance) -> Vec<u8>) -> Kind {
-    Kind { name, weight, make }
+/// An order that is mostly below the clock behind others.
+const EARLY_ORDER: &[u8] = b"6\t0\t9999,99\n";
+
+/// An order that is never below the clock.
+const LATE_ORDER: &[u8] = b"8\t9999,99\t9999,99\n";
+
+const fn kind(name: &'static str, weights: [u32; 2], make: fn(&mut Chance) -> Vec<u8>) -> Kind {
+    Kind {
+        name,
+        weights,
+        make,
+    }
 }
 
-/// The names of all kinds.
-pub fn kind_names() -> impl Iterator<Item = &'static str> {
-    KINDS.iter().map(|kind| kind.name)
+/// The names of all kinds that are made for this program.
+pub fn kind_names(program: Program) -> impl Iterator<Item = &'static str> {
+    KINDS
+        .iter()
+        .filter(move |kind| kind.weights[program as usize] > 0)
+        .map(|kind| kind.name)
 }
 
-/// The list of this seed.
+/// The desk's list of this seed.
 pub fn list(seed: u64) -> Made {
-    let mut chance = Chance::from_seed(seed);
-    let kind = &KINDS[chance.weighted(&KINDS.each_ref().map(|kind| kind.weight))];
+    list_for(Program::Desk, &mut Chance::from_seed(seed))
+}
+
+/// A list for this program.
+pub fn list_for(program: Program, chance: &mut Chance) -> Made {
+    let weights = KINDS.each_ref().map(|kind| kind.weights[program as usize]);
+    let kind = &KINDS[chance.weighted(&weights)];
     Made {
         kind: kind.name,
-        text: (kind.make)(&mut chance),
+        text: (kind.make)(chance),
     }
 }
 
@@ -159,10 +190,40 @@ fn over_full(chance: &mut Chance) -> Vec<u8> {
         }
     }
     for _ in 0..chance.below(4) {
-        // Mostly below the clock.
-        lines.push(b"6\t0\t9999,99\n".to_vec());
+        lines.push(EARLY_ORDER.to_vec());
     }
     with_any_end(chance, lines)
+}
+
+/// As many orders as the book takes.
+fn just_full(chance: &mut Chance) -> Vec<u8> {
+    crowded_lines(chance, MOST_TAKEN).concat()
+}
+
+/// As many orders as the book takes, and a load for each of them.
+fn all_kept(chance: &mut Chance) -> Vec<u8> {
+    let manner = roomy_manner(chance);
+    clean_lines(chance, &manner, MOST_TAKEN).concat()
+}
+
+/// The book is full before the end; what comes then may be below the clock.
+fn one_too_many(chance: &mut Chance) -> Vec<u8> {
+    let mut lines = crowded_lines(chance, MOST_TAKEN);
+    for _ in 0..chance.pick(&[1, 1, 2, 20]) {
+        lines.push(chance.pick(&[LATE_ORDER, EARLY_ORDER]).to_vec());
+    }
+    lines.concat()
+}
+
+/// One order or two are ready earlier than the one before, if that is not
+/// ready at 0, and all else is clean.
+fn below_clock(chance: &mut Chance) -> Vec<u8> {
+    let mut lines = some_lines(chance);
+    for _ in 0..chance.between(1, 2) {
+        let place = chance.between(1, lines.len() as u32 - 1) as usize;
+        earlier_ready(chance, &mut lines[place], &ORDER);
+    }
+    lines.concat()
 }
 
 fn about_limit(chance: &mut Chance) -> Vec<u8> {
@@ -211,8 +272,12 @@ fn some_lines(chance: &mut Chance) -> Vec<Vec<u8>> {
 
 /// More orders than the book takes, without a first line.
 fn crowded_orders(chance: &mut Chance) -> Vec<u8> {
+    crowded_lines(chance, MOST_TAKEN + 88)[1..].concat()
+}
+
+fn crowded_lines(chance: &mut Chance, orders: u32) -> Vec<Vec<u8>> {
     let manner = tight_manner(chance);
-    clean_lines(chance, &manner, MOST_TAKEN + 88)[1..].concat()
+    clean_lines(chance, &manner, orders)
 }
 
 /// Damaged orders without a first line, and one that is surely ended.
@@ -221,7 +286,7 @@ fn damaged_orders(chance: &mut Chance) -> Vec<u8> {
     for line in &mut lines[1..] {
         damage(chance, line, &ORDER);
     }
-    lines.push(b"8\t9999,99\t9999,99\n".to_vec());
+    lines.push(LATE_ORDER.to_vec());
     lines[1..].concat()
 }
 

@@ -1,15 +1,23 @@
-//! The second program: a desk written from the paper alone, a generator of
-//! order lists and plans, and the comparison of another desk with this one.
+//! The second program: a desk and a checker written from the paper alone, a
+//! generator of order lists and plans, and the comparison of another desk or
+//! checker with this one's.
 //!
 //! Assumes that seeds and counts are plain whole numbers of up to 64 bits. It
 //! ends with 0 if all went well, 1 if two programs differ or something could
-//! not be read or run, and 2 if the arguments make no sense.
+//! not be read or run, and 2 if the arguments make no sense. The checker ends
+//! with 0 whatever its arguments are, as its reply tells what was not read.
 
 mod book;
 mod chance;
+mod checker;
+#[cfg(test)]
+mod checker_tests;
 mod clean;
 mod compare;
+mod compare_checker;
+mod compare_desk;
 mod coverage;
+mod coverage_checker;
 mod desk;
 mod faults;
 mod hours;
@@ -17,6 +25,7 @@ mod lines;
 mod lists;
 mod noise;
 mod numbers;
+mod pairs;
 mod plans;
 mod refusal;
 mod show;
@@ -25,30 +34,54 @@ mod spelling;
 mod tests;
 
 use std::env;
+use std::ffi::OsString;
 use std::io::{self, Read, Write};
 use std::process::ExitCode;
 
+use compare::Findings;
+use compare_checker::compare_checker;
+use compare_desk::compare_desk;
+use pairs::pair;
+
 const USAGE: &str = "\
-oracle desk                     answers the order list on standard input
-oracle list SEED                writes the order list of this seed
-oracle plan SEED                writes the plan of this seed, made for that list
-oracle coverage N SEED          counts what the lists of N seeds bring about
-oracle compare N SEED DESK      compares the desk program at DESK over N seeds
+oracle desk                           answers the order list on standard input
+oracle checker LIST PLAN              judges the plan by the list, two files
+oracle list SEED                      writes the order list of this seed
+oracle plan SEED                      writes the plan of this seed, made for that list
+oracle pair-list SEED                 writes the list of this seed's pair for checkers
+oracle pair-plan SEED                 writes the plan of that pair
+oracle coverage N SEED                counts what the lists of N seeds bring about
+oracle coverage-checker N SEED        counts what the pairs of N seeds bring about
+oracle compare N SEED DESK            compares the desk program at DESK over N seeds
+oracle compare-checker N SEED CHECKER compares the checker program at CHECKER
 ";
 
 fn main() -> ExitCode {
-    let arguments: Vec<String> = env::args().skip(1).collect();
-    let words: Vec<&str> = arguments.iter().map(String::as_str).collect();
+    let arguments: Vec<OsString> = env::args_os().skip(1).collect();
+    let texts: Vec<_> = arguments
+        .iter()
+        .map(|name| name.to_string_lossy())
+        .collect();
+    let words: Vec<&str> = texts.iter().map(AsRef::as_ref).collect();
     let done = match words[..] {
         ["desk"] => answer_standard_input(),
+        ["checker", ..] => print(&checker::reply(&arguments[1..])),
         ["list", seed] => on_number(seed, |seed| print(&lists::list(seed).text)),
         ["plan", seed] => on_number(seed, |seed| print(&plans::plan(seed).text)),
+        ["pair-list", seed] => on_number(seed, |seed| print(&pair(seed).list.text)),
+        ["pair-plan", seed] => on_number(seed, |seed| print(&pair(seed).plan.text)),
         ["coverage", count, seed] => on_numbers(count, seed, |count, seed| {
             print(coverage::coverage(count, seed).as_bytes())
         }),
-        ["compare", count, seed, program] => {
-            on_numbers(count, seed, |count, seed| compare_all(count, seed, program))
-        }
+        ["coverage-checker", count, seed] => on_numbers(count, seed, |count, seed| {
+            print(coverage_checker::coverage(count, seed).as_bytes())
+        }),
+        ["compare", count, seed, program] => on_numbers(count, seed, |count, seed| {
+            tell(count, compare_desk(count, seed, program)?)
+        }),
+        ["compare-checker", count, seed, program] => on_numbers(count, seed, |count, seed| {
+            tell(count, compare_checker(count, seed, program)?)
+        }),
         _ => misused(),
     };
     done.unwrap_or_else(|trouble| {
@@ -63,8 +96,8 @@ fn answer_standard_input() -> io::Result<ExitCode> {
     print(&desk::reply(&list))
 }
 
-fn compare_all(count: u64, seed: u64, program: &str) -> io::Result<ExitCode> {
-    let findings = compare::compare(count, seed, program)?;
+/// Shows the first difference and says how many there are.
+fn tell(count: u64, findings: Findings) -> io::Result<ExitCode> {
     if let Some(difference) = &findings.first {
         println!("{}", difference.account);
     }

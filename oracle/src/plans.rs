@@ -1,4 +1,4 @@
-//! Generated plans, one for each seed, made for the list of the same seed.
+//! Generated plans, each made for a list.
 //!
 //! Assumes that the list may be of any kind: lines of it that do not read are
 //! passed over, and a list whose first line does not read has no orders. A
@@ -6,28 +6,20 @@
 
 use crate::book::{Answer, Book, MOST_TAKEN};
 use crate::chance::Chance;
-use crate::faults::{damage, PLAN};
+use crate::faults::{damage, damage_fields, PLAN};
 use crate::hours::LAST_HOUR;
-use crate::lines::{lines, read_heading, read_order, Heading, Order};
+use crate::lines::{lines, read_heading, read_order, Heading, Load, Order};
 use crate::lists::{list, Made};
 use crate::noise::{any_bytes, length_about_limit, line_bytes, stretch};
 use crate::spelling::{join_fields, spell_hour, spell_number, Spelling};
 
-/// What a plan has to know of its list.
-struct Season {
-    heading: Heading,
+/// What a plan has to know of its list, which may be a bad one.
+pub struct Season {
+    pub heading: Heading,
     /// The orders that read, each with its line number.
     orders: Vec<(u32, Order)>,
     /// The number of the list's last line.
-    last_line: u32,
-}
-
-/// One line of a plan as numbers, not all of them in range.
-#[derive(Clone, Copy)]
-struct Load {
-    order_line: u32,
-    chamber: u32,
-    start: u32,
+    pub last_line: u32,
 }
 
 struct Kind {
@@ -36,14 +28,19 @@ struct Kind {
     make: fn(&mut Chance, &Season) -> Vec<u8>,
 }
 
-const KINDS: [Kind; 8] = [
+const KINDS: [Kind; 13] = [
     kind("kept by the desk", 130, kept_by_desk),
-    kind("packed", 150, packed),
-    kind("one load spoiled", 330, one_load_spoiled),
-    kind("loads spoiled", 100, loads_spoiled),
-    kind("lines damaged", 200, lines_damaged),
-    kind("noise", 50, noise),
-    kind("at the limit", 25, about_limit),
+    kind("packed", 140, packed),
+    kind("one load spoiled", 230, one_load_spoiled),
+    kind("loads spoiled", 80, loads_spoiled),
+    kind("border named", 70, border_named),
+    kind("laid over", 80, laid_over),
+    kind("order added", 110, order_added),
+    kind("lines damaged", 140, lines_damaged),
+    kind("fields damaged", 80, fields_damaged),
+    kind("not ended", 20, not_ended),
+    kind("noise", 35, noise),
+    kind("at the limit", 45, about_limit),
     kind("empty", 15, empty),
 ];
 
@@ -56,19 +53,24 @@ pub fn kind_names() -> impl Iterator<Item = &'static str> {
     KINDS.iter().map(|kind| kind.name)
 }
 
-/// The plan of this seed, made for the list of this seed.
+/// The plan of this seed, made for the desk's list of this seed.
 pub fn plan(seed: u64) -> Made {
-    let season = season_of(&list(seed).text);
     // Another stream than the list's, or the two would be drawn alike.
-    let mut chance = Chance::from_seed(!seed);
+    plan_for(&list(seed).text, &mut Chance::from_seed(!seed))
+}
+
+/// A plan for this list.
+pub fn plan_for(list: &[u8], chance: &mut Chance) -> Made {
+    let season = season_of(list);
     let kind = &KINDS[chance.weighted(&KINDS.each_ref().map(|kind| kind.weight))];
     Made {
         kind: kind.name,
-        text: (kind.make)(&mut chance, &season),
+        text: (kind.make)(chance, &season),
     }
 }
 
-fn season_of(list: &[u8]) -> Season {
+/// What a plan has to know of this list.
+pub fn season_of(list: &[u8]) -> Season {
     let mut walk = lines(list);
     let heading = walk.next().and_then(|line| read_heading(line).ok());
     let mut season = Season {
@@ -107,25 +109,69 @@ fn packed(chance: &mut Chance, season: &Season) -> Vec<u8> {
 }
 
 fn one_load_spoiled(chance: &mut Chance, season: &Season) -> Vec<u8> {
-    let mut loads = right_loads(chance, season);
+    let mut loads = spoilable_loads(chance, season);
     spoil(chance, season, &mut loads);
     text_of(chance, &loads)
 }
 
 fn loads_spoiled(chance: &mut Chance, season: &Season) -> Vec<u8> {
-    let mut loads = right_loads(chance, season);
+    let mut loads = spoilable_loads(chance, season);
     for _ in 0..chance.between(2, 6) {
         spoil(chance, season, &mut loads);
     }
     text_of(chance, &loads)
 }
 
-fn lines_damaged(chance: &mut Chance, season: &Season) -> Vec<u8> {
-    let loads = right_loads(chance, season);
-    let mut lines = lines_of(chance, &loads);
-    if lines.is_empty() {
-        lines.push(b"2\t1\t0\n".to_vec());
+/// One order line is the first or the last good one or just beside them.
+fn border_named(chance: &mut Chance, season: &Season) -> Vec<u8> {
+    let mut loads = spoilable_loads(chance, season);
+    let place = chance.place(loads.len());
+    let last = season.last_line;
+    loads[place].order_line = chance.pick(&[0, 1, 2, last, last + 1]).min(9_999);
+    text_of(chance, &loads)
+}
+
+/// One load lies upon that of an earlier line, with nothing else wrong.
+fn laid_over(chance: &mut Chance, season: &Season) -> Vec<u8> {
+    let mut loads = spoilable_loads(chance, season);
+    // The hours of the two orders drawn do not always allow it.
+    for _ in 0..40 {
+        let later = chance.place(loads.len());
+        if later == 0 {
+            continue;
+        }
+        let earlier = loads[chance.place(later)];
+        let order_line = loads[later].order_line;
+        if let Some(start) = overlapping_start(chance, season, earlier.start, order_line) {
+            loads[later].chamber = earlier.chamber;
+            loads[later].start = start;
+            break;
+        }
     }
+    text_of(chance, &loads)
+}
+
+/// A load is added for any order, kept or not, beside the bounds of its start,
+/// so that its line meets several refusals. Orders too short for any load are
+/// preferred, as their loads are both too early and too late.
+fn order_added(chance: &mut Chance, season: &Season) -> Vec<u8> {
+    let mut loads = spoilable_loads(chance, season);
+    let mut added = loads[chance.place(loads.len())];
+    let mut named = season.orders.clone();
+    if chance.one_in(2) {
+        named.retain(|(_, order)| order.due < order.ready + season.heading.run);
+    }
+    if !named.is_empty() {
+        added.order_line = chance.pick(&named).0;
+    }
+    move_about_bounds(chance, season, &mut added);
+    loads.insert(chance.place(loads.len() + 1), added);
+    text_of(chance, &loads)
+}
+
+fn lines_damaged(chance: &mut Chance, season: &Season) -> Vec<u8> {
+    let loads = spoilable_loads(chance, season);
+    let mut lines = lines_of(chance, &loads);
     for _ in 0..chance.between(1, 3) {
         let place = chance.place(lines.len());
         damage(chance, &mut lines[place], &PLAN);
@@ -134,6 +180,22 @@ fn lines_damaged(chance: &mut Chance, season: &Season) -> Vec<u8> {
     if chance.one_in(8) {
         text.pop();
     }
+    text
+}
+
+/// Several fields of one line are bad.
+fn fields_damaged(chance: &mut Chance, season: &Season) -> Vec<u8> {
+    let loads = spoilable_loads(chance, season);
+    let mut lines = lines_of(chance, &loads);
+    let place = chance.place(lines.len());
+    damage_fields(chance, &mut lines[place], &PLAN);
+    lines.concat()
+}
+
+/// Nothing is wrong but that the last line, if there is one, is not ended.
+fn not_ended(chance: &mut Chance, season: &Season) -> Vec<u8> {
+    let mut text = packed(chance, season);
+    text.pop();
     text
 }
 
@@ -163,12 +225,21 @@ fn empty(_: &mut Chance, _: &Season) -> Vec<u8> {
     Vec::new()
 }
 
-fn right_loads(chance: &mut Chance, season: &Season) -> Vec<Load> {
-    if chance.one_in(2) {
+/// Right loads, or a single one of no right if the list allows none.
+fn spoilable_loads(chance: &mut Chance, season: &Season) -> Vec<Load> {
+    let mut loads = if chance.one_in(2) {
         desk_loads(season)
     } else {
         packed_loads(chance, season)
+    };
+    if loads.is_empty() {
+        loads.push(Load {
+            order_line: season.last_line,
+            chamber: 1,
+            start: 0,
+        });
     }
+    loads
 }
 
 fn desk_loads(season: &Season) -> Vec<Load> {
@@ -221,15 +292,8 @@ fn earliest_start(run: u32, loads: &[Load], chamber: u32, order: Order) -> Optio
 }
 
 /// Spoils one load in a way that one of the refusals 4 and 11 to 15 names, or
-/// moves it only just so far that it is still right.
+/// moves it only just so far that it is still right. There is one at least.
 fn spoil(chance: &mut Chance, season: &Season, loads: &mut Vec<Load>) {
-    if loads.is_empty() {
-        loads.push(Load {
-            order_line: season.last_line,
-            chamber: 1,
-            start: 0,
-        });
-    }
     let place = chance.place(loads.len());
     match chance.below(7) {
         0 => loads[place].order_line = strange_line(chance, season),
@@ -265,8 +329,7 @@ fn repeat_load(chance: &mut Chance, loads: &mut Vec<Load>, place: usize) {
 
 /// Moves the start to one side or the other of ready and of due less run.
 fn move_about_bounds(chance: &mut Chance, season: &Season, load: &mut Load) {
-    let named = |line: &&(u32, Order)| line.0 == load.order_line;
-    let Some((_, order)) = season.orders.iter().find(named) else {
+    let Some(order) = order_on(season, load.order_line) else {
         return;
     };
     let latest = order.due.saturating_sub(season.heading.run);
@@ -277,6 +340,30 @@ fn move_about_bounds(chance: &mut Chance, season: &Season, load: &mut Load) {
         _ => latest,
     };
     load.start = start.min(LAST_HOUR);
+}
+
+/// A start that the hours of the order allow and at which its load overlaps
+/// that of another start.
+fn overlapping_start(
+    chance: &mut Chance,
+    season: &Season,
+    overlapped: u32,
+    order_line: u32,
+) -> Option<u32> {
+    let order = order_on(season, order_line)?;
+    let run = season.heading.run;
+    let least = order.ready.max((overlapped + 1).saturating_sub(run));
+    let most = order.due.checked_sub(run)?.min(overlapped + run - 1);
+    (least <= most).then(|| {
+        let any = chance.between(least, most);
+        chance.pick(&[least, any, most])
+    })
+}
+
+/// The order on this line of the list, if it is one that reads.
+fn order_on(season: &Season, order_line: u32) -> Option<Order> {
+    let named = |line: &&(u32, Order)| line.0 == order_line;
+    season.orders.iter().find(named).map(|(_, order)| *order)
 }
 
 /// Moves the load beside another of the plan, so that the two only just

@@ -1,7 +1,7 @@
 //! The refusal numbers that the second program can give.
 //!
 //! Assumes the numbering of the paper's table. Only the refusals that reading
-//! a list and taking its orders can meet stand here.
+//! a list, taking its orders and judging a plan can meet stand here.
 
 #[derive(Clone, Copy, Debug, PartialEq, Eq)]
 pub enum Refusal {
@@ -13,6 +13,11 @@ pub enum Refusal {
     BookFull = 6,
     BookUnsound = 8,
     TextTooLong = 9,
+    NoSuchOrder = 11,
+    SameOrder = 12,
+    BeforeReady = 13,
+    AfterDue = 14,
+    Overlap = 15,
 }
 
 impl Refusal {

@@ -10,7 +10,7 @@ use crate::lists::list;
 use crate::plans::plan;
 use crate::refusal::Refusal;
 
-fn bytes(text: &str) -> Vec<u8> {
+pub fn bytes(text: &str) -> Vec<u8> {
     text.replace('→', "\t").into_bytes()
 }
 

@@ -7,7 +7,6 @@ use native.Mathlib.Omega.{arith}
 use Rattle.ground.specs.Refusal.{Read, wrong, right}
 use Rattle.lines.specs.Reading.{orderOf}
 use Rattle.lines.specs.declared.reading.Order.{Order}
-use Rattle.book.specs.Soundness.{freshBook}
 use Rattle.book.specs.Taking.{decided, nextBook, answerOf}
 use Rattle.book.specs.declared.Book.{Book}
 use Rattle.book.specs.declared.Answer.{Answer}
@@ -15,7 +14,7 @@ use Rattle.book.specs.declared.Answer.the-variants.{Refused}
 use Rattle.book.specs.declared.Choice.{Choice}
 use Rattle.book.specs.declared.Choice.the-variants.{Nothing, Chamber}
 use Rattle.book.proofs.Promises.{refused-order-stays}
-use Rattle.orders.specs.Answers.{opening, orderLines, answersFrom, bookAfter, decision, bookPast}
+use Rattle.orders.specs.Answers.{orderLines, answersFrom, bookAfter, decision, bookPast}
 use Rattle.orders.specs.Replies.{sumLine, numbered, repliesFrom}
 use Rattle.orders.specs.Meaning.{refusalsIn, refusals, yesesIn, yeses, CleanList}
 use Rattle.orders.proofs.Beginning.{opened-fresh-book}

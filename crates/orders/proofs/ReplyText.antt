@@ -9,7 +9,7 @@ use Rattle.ground.specs.Text.{bytes}
 use Rattle.ground.proofs.Tests.{both, first-of, second-of}
 use Rattle.lines.specs.Lines.{lineEnd, linesOf}
 use Rattle.lines.specs.Fields.{tab}
-use Rattle.lines.specs.Meaning.{isUnbroken, joined, isClean, allClean, tabbed, AreLines, none, more}
+use Rattle.lines.specs.Meaning.{isUnbroken, isClean, allClean, tabbed, AreLines, none, more}
 use Rattle.lines.proofs.RoundTrip.{clean-number, clean-hour}
 use Rattle.lines.proofs.Promises.{lines-only}
 use Rattle.book.specs.declared.Book.{Book}

@@ -1,15 +1,14 @@
 -- Going through a list line by line gives the replies of its definition. Assumes nothing.
 use Prim.Native.Nat.{ℕ, zero, suc, _+_, _≤_, _<_}
 use mathlib.Core.Path.{_≡_, refl, sym, ap, _∙_}
-use mathlib.Core.Bool.{true, false}
+use mathlib.Core.Bool.{false}
 use mathlib.Core.Logic.{_↔_}
 use mathlib.Core.List.{List, [], _∷_}
 use lib.ListN.{length, drop, length-take, length-drop}
 use lib.Dec.{eqb, ltb}
 use native.Mathlib.Omega.{arith}
 use borrow.Author.Tests.{ltb-true, ltb-false}
-use Rattle.ground.specs.Refusal.{wrong, right}
-use Rattle.ground.specs.Limits.{longestText}
+use Rattle.ground.specs.Refusal.{right}
 use Rattle.ground.proofs.Tests.{by-test}
 use Rattle.lines.specs.Lines.{lineEnd, before, linesOf, lineLength, lineAt, pastLine}
 use Rattle.lines.specs.Reading.{orderOf}
@@ -117,7 +116,7 @@ module _ (text : List ℕ) where
       (gone-over progress)
 
   -- a list that begins has numbers for all its lines, and those that are left are its orders
-  begun-left : orderLines text ≡ linesOf (drop (pastLine text 0) text)
+  pub begun-left : orderLines text ≡ linesOf (drop (pastLine text 0) text)
   unfolding orderLines
   begun-left =
       by-test (ltb 0 (length text)) (λ some. rw (walk-on text 0 (ltb-true 0 (length text) some)))

@@ -1,5 +1,5 @@
 -- `take` is refused by the checks, and settles what was chosen where none refuses.
-use mathlib.Core.Path.{refl, sym, ap, _∙_}
+use mathlib.Core.Path.{sym, ap, _∙_}
 use native.Mathlib.Omega.{arith}
 use borrow.Author.Needs.{needs}
 use Rattle.ground.specs.Refusal.{right}

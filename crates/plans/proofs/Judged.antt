@@ -1,0 +1,332 @@
+-- A list and a plan are judged right exactly when the plan obeys the list, and else by the first fault, with its line. Assumes nothing.
+use Prim.Native.Nat.{ℕ, _+_, _-_, _≤_, _<_}
+use mathlib.Core.Path.{_≡_, refl, sym, ap, subst, _∙_}
+use mathlib.Core.Bool.{true, false}
+use mathlib.Core.Logic.{_↔_, ⊎-elim}
+use mathlib.Core.List.{List, [], _∷_, _++_, map, append-assoc}
+use lib.ListN.{length, length-append, length-map}
+use lib.Seq.{take-append-seam, drop-append-seam, length-take-le}
+use lib.Dec.{leb, ltb}
+use native.Mathlib.Omega.{arith}
+use borrow.Author.Tests.{leb-true, leb-false, le-leb, lt-leb, ltb-true, ltb-false}
+use Rattle.ground.specs.Refusal.{Or, Read, wrong, right, _>>=_}
+use Rattle.ground.specs.Limits.{longestText}
+use Rattle.ground.proofs.Refusal.{never-right, same-right, same-wrong}
+use Rattle.ground.proofs.Tests.{by-test}
+use Rattle.lines.specs.Lines.{linesOf, lineLength, lineAt, pastLine}
+use Rattle.lines.specs.Reading.{headingOf, loadOf}
+use Rattle.lines.specs.Writing.{firstOrderLine}
+use Rattle.lines.specs.Meaning.{joined}
+use Rattle.lines.specs.declared.reading.Heading.{Heading}
+use Rattle.lines.specs.declared.reading.Order.{Order}
+use Rattle.lines.specs.declared.reading.Load.{Load}
+use Rattle.lines.proofs.Lines.{line-within}
+use Rattle.lines.proofs.Promises.{lines-joined, walk-on, walk-done, heading-fault}
+use Rattle.orders.specs.Answers.{orderLines}
+use Rattle.plans.specs.Judging.{faultAt, listJudged, planJudged, loadsCounted, bothJudged, judged, partOf, shown}
+use Rattle.plans.specs.Meaning.{CleanList, GoodLoads, Obeys, FirstFault, list-long, plan-long, in-heading, in-list, in-plan}
+use Rattle.plans.specs.declared.Fault.{Fault}
+use Rattle.plans.proofs.Each.{each-none, two-none}
+use Rattle.plans.proofs.Through.{faultOf, both-right, one-wrong, past-line, at-or-past-line}
+use Rattle.plans.proofs.Loads.{knownOf}
+use Rattle.plans.proofs.Obeying.{plan-right, PlanFault, plan-wrong}
+use Rattle.plans.proofs.Listing.{list-right, list-clean, ListFault, list-wrong}
+
+-- as many lines as loads
+pub as-many :
+    (heading : Heading) (orders : List Order) (lines : List (List ℕ)) (loads : List Load) → GoodLoads heading orders lines loads
+    → length lines ≡ length loads
+as-many heading orders lines loads good =
+    sym (length-map lines (loadOf (heading .chambers))) ∙ ap length (good .read) ∙ length-map {B = Read Load} loads right
+
+module _ (list plan : List ℕ) where
+  -- what is left to look for once neither text is too long
+  abbrev from-heading : Or Fault ℕ
+  from-heading = faultAt false 1 0 (pastLine list 0) (headingOf (lineAt list 0)) >>= λ heading. bothJudged list plan heading
+
+  -- it is looked for then
+  fit-then : length list ≤ longestText → length plan ≤ longestText → judged list plan ≡ from-heading
+  unfolding judged
+  fit-then list-fits plan-fits = rw (le-leb (length list) longestText list-fits, le-leb (length plan) longestText plan-fits)
+
+  -- 9 in the list, then in the plan
+  pub list-over : longestText < length list → judged list plan ≡ wrong (faultOf 9 false 0 0 0)
+  unfolding judged
+  list-over over = rw (lt-leb (length list) longestText over)
+
+  -- a plan that is too long, where the list is not
+  pub plan-over : length list ≤ longestText → longestText < length plan → judged list plan ≡ wrong (faultOf 9 true 0 0 0)
+  unfolding judged
+  plan-over list-fits over = rw (le-leb (length list) longestText list-fits, lt-leb (length plan) longestText over)
+
+  -- the loads of a plan that has no fault are as many as its lines
+  module _ (heading : Heading) (orders : List Order) (readies dues : List ℕ)
+      (same-readies : readies ≡ map (λ order. order .ready) orders) (same-dues : dues ≡ map (λ order. order .due) orders) where
+    counted-right :
+        (count : ℕ)
+        → (loadsCounted plan heading readies dues ≡ right count)
+        ↔ ((loads : List Load) × GoodLoads heading orders (linesOf plan) loads × (count ≡ length (linesOf plan)))
+    unfolding loadsCounted
+    counted-right count = rw (same-readies, same-dues) (
+      λ e.
+          let p =
+          both-right (planJudged plan heading (map (λ order. order .ready) orders) (map (λ order. order .due) orders))
+          (λ loads. right (length (loads .orders))) count e in
+          let q = plan-right heading orders plan (p .0) .0 (p .1) in (
+            q .0,
+            q .1,
+            sym (same-right (p .2))
+                ∙ ap (λ known. length (known .orders)) (q .2)
+                ∙ length-map (q .0) (λ (load : Load). load .order)
+                ∙ sym (as-many heading orders (linesOf plan) (q .0) (q .1)),
+          ),
+      λ p.
+          rw (plan-right heading orders plan (knownOf (p .0)) .1 (p .0, p .1, refl))
+          (ap right (length-map (p .0) (λ (load : Load). load .order) ∙ sym (as-many heading orders (linesOf plan) (p .0) (p .1)) ∙ sym (p .2))),
+    )
+
+    -- a fault of the plan is the answer
+    counted-wrong :
+        (fault : Fault)
+        → (loadsCounted plan heading readies dues ≡ wrong fault)
+        ↔ (planJudged plan heading (map (λ order. order .ready) orders) (map (λ order. order .due) orders) ≡ wrong fault)
+    unfolding loadsCounted
+    counted-wrong fault = rw (same-readies, same-dues) (
+      λ e.
+          ⊎-elim (λ first. first) (λ p. absurd (never-right (sym (p .2))))
+          (one-wrong (planJudged plan heading (map (λ order. order .ready) orders) (map (λ order. order .due) orders))
+          (λ loads. right (length (loads .orders))) fault e),
+      λ e. rw e,
+    )
+
+  -- a list with a first line that reads, and a plan, that are right with a number
+  both-from :
+      (count : ℕ) → length list ≤ longestText → length plan ≤ longestText → (heading : Heading) → headingOf (lineAt list 0) ≡ right heading
+      → bothJudged list plan heading ≡ right count → Obeys list plan × (count ≡ length (linesOf plan))
+  unfolding bothJudged
+  both-from count list-fits plan-fits heading headed e =
+      let p = both-right (listJudged list heading) (λ known. loadsCounted plan heading (known .readies) (known .dues)) count e in
+      let q = list-right list heading headed (p .0) (p .1) in
+      let r = counted-right heading (q .0) (p .0 .readies) (p .0 .dues) (q .2 .readies) (q .2 .dues) count .0 (p .2) in (
+        record {
+          heading = heading;
+          orders = q .0;
+          loads = r .0;
+          clean = record { fits = list-fits; headed = headed; ordered = q .1 };
+          fits = plan-fits;
+          good = r .1;
+        },
+        r .2,
+      )
+
+  -- a list and a plan that are right with a number
+  right-from : (count : ℕ) → judged list plan ≡ right count → Obeys list plan × (count ≡ length (linesOf plan))
+  right-from count e =
+      by-test (leb (length list) longestText)
+      (λ one.
+      by-test (leb (length plan) longestText)
+      (λ other.
+      let list-fits = leb-true (length list) longestText one in
+      let plan-fits = leb-true (length plan) longestText other in
+      let p =
+      past-line false 1 0 (pastLine list 0) (headingOf (lineAt list 0)) (λ heading. bothJudged list plan heading) count
+      (sym (fit-then list-fits plan-fits) ∙ e) in
+      both-from count list-fits plan-fits (p .0) (p .1) (p .2))
+      (λ over. absurd (never-right (sym (plan-over (leb-true (length list) longestText one) (leb-false (length plan) longestText over)) ∙ e))))
+      (λ over. absurd (never-right (sym (list-over (leb-false (length list) longestText over)) ∙ e)))
+
+  -- a plan that obeys its list is right with the number of its lines
+  right-to : Obeys list plan → judged list plan ≡ right (length (linesOf plan))
+  unfolding bothJudged
+  right-to obeys =
+      let clean = obeys .clean in
+      let known = list-clean list (obeys .heading) (clean .headed) (obeys .orders) (clean .ordered) in
+      fit-then (clean .fits) (obeys .fits)
+      ∙ rw (clean .headed, known .1)
+      (counted-right (obeys .heading) (obeys .orders) (known .0 .readies) (known .0 .dues) (known .2 .readies) (known .2 .dues) (length (linesOf plan)) .1
+      (obeys .loads, obeys .good, refl))
+
+  -- "With no fault the answer is right with the number of plan lines": exactly when the plan obeys the list, and by that number
+  pub right-exactly : (count : ℕ) → (judged list plan ≡ right count) ↔ (Obeys list plan × (count ≡ length (linesOf plan)))
+  right-exactly count = (right-from count, λ p. right-to (p .0) ∙ ap right (sym (p .1)))
+
+-- "An empty plan for a clean list is right with 0"
+pub empty-plan : (list : List ℕ) (heading : Heading) (orders : List Order) → CleanList list heading orders → judged list [] ≡ right 0
+unfolding linesOf
+empty-plan list heading orders clean =
+    right-exactly list [] 0 .1 (
+      record {
+        heading = heading;
+        orders = orders;
+        loads = [];
+        clean = clean;
+        fits = omega arith;
+        good = record { read = refl; in-time = each-none; apart = two-none };
+      },
+      refl,
+    )
+
+-- The first line of a list, and the others.
+-- it is as long as the place past it
+first-length : (list : List ℕ) → pastLine list 0 ≡ length (lineAt list 0)
+unfolding pastLine lineAt
+first-length list = let size = length-take-le (lineLength list) list (line-within list) in omega (arith, size)
+
+-- they are the whole list
+list-joined : (list : List ℕ) → list ≡ lineAt list 0 ++ joined (orderLines list)
+unfolding orderLines joined
+list-joined list =
+    by-test (ltb 0 (length list))
+    (λ some. sym (lines-joined list) ∙ rw (walk-on list 0 (ltb-true 0 (length list) some)))
+    (λ none.
+    let done = walk-done list 0 (ltb-false 0 (length list) none) in
+    sym (lines-joined list) ∙ rw (done .0, done .1))
+
+-- lines one behind the other, cut at one of them
+pub joined-cut : (front : List (List ℕ)) (line : List ℕ) (rest : List (List ℕ)) → joined (front ++ line ∷ rest) ≡ joined front ++ (line ++ joined rest)
+unfolding joined
+joined-cut [] line rest = refl
+joined-cut (first ∷ front) line rest = rw (joined-cut front line rest) (sym (append-assoc first (joined front) (line ++ joined rest)))
+
+-- the part from a place to another, where a line stands
+part-is :
+    (text front line rest : List ℕ) (from to : ℕ) → text ≡ front ++ (line ++ rest) → from ≡ length front → to ≡ length front + length line
+    → partOf text from to ≡ line
+unfolding partOf
+part-is text front line rest from to whole here there =
+    let size : length text ≡ length front + (length line + length rest) =
+    ap length whole ∙ length-append front (line ++ rest) ∙ ap (λ count. length front + count) (length-append line rest) in
+    let span : to - from ≡ length line = omega arith in
+    rw (le-leb from to (omega arith), le-leb to (length text) (omega arith), span, here, whole, drop-append-seam front (line ++ rest), take-append-seam line rest)
+
+-- the line of a first fault is the line shown
+pub first-shown : (list plan : List ℕ) {fault : Fault} {line : List ℕ} → FirstFault list plan fault line → shown fault list plan ≡ line
+unfolding shown
+first-shown list plan (list-long over) = part-is list [] [] list 0 0 refl refl (omega arith)
+first-shown list plan (plan-long fits over) = part-is plan [] [] plan 0 0 refl refl (omega arith)
+first-shown list plan (in-heading list-fits plan-fits wrongly) =
+    part-is list [] (lineAt list 0) (joined (orderLines list)) 0 (length (lineAt list 0)) (list-joined list) refl (omega arith)
+first-shown list plan (in-list heading front line rest orders list-fits plan-fits headed among clean wrongly) =
+    let whole : list ≡ (lineAt list 0 ++ joined front) ++ (line ++ joined rest) =
+    list-joined list
+    ∙ ap (λ lines. lineAt list 0 ++ joined lines) among
+    ∙ ap (λ others. lineAt list 0 ++ others) (joined-cut front line rest)
+    ∙ sym (append-assoc (lineAt list 0) (joined front) (line ++ joined rest)) in
+    let before = length-append (lineAt list 0) (joined front) in
+    part-is list (lineAt list 0 ++ joined front) line (joined rest) (length (lineAt list 0) + length (joined front))
+    (length (lineAt list 0) + length (joined front) + length line) whole (sym before) (omega (arith, before))
+first-shown list plan (in-plan heading orders front line rest loads clean fits among good wrongly) =
+    part-is plan (joined front) line (joined rest) (length (joined front)) (length (joined front) + length line)
+    (sym (lines-joined plan) ∙ ap joined among ∙ joined-cut front line rest) refl refl
+
+module _ (list plan : List ℕ) where
+  -- the first order line at fault is the first fault, where nothing before it is one
+  first-in-list :
+      (fault : Fault) (heading : Heading) (headed : headingOf (lineAt list 0) ≡ right heading) → length list ≤ longestText → length plan ≤ longestText
+      → (wrongly : ListFault list heading headed fault) → FirstFault list plan fault (wrongly .line)
+  first-in-list fault heading headed list-fits plan-fits wrongly =
+      subst (λ given. FirstFault list plan given (wrongly .line)) (sym (rw (first-length list) at (wrongly .told)))
+      (in-list heading (wrongly .front) (wrongly .line) (wrongly .rest) (wrongly .orders) list-fits plan-fits headed (wrongly .among) (wrongly .clean)
+      (wrongly .at-fault))
+
+  -- so is the first plan line at fault, where the list is clean
+  first-in-plan :
+      (fault : Fault) (heading : Heading) (orders : List Order) → CleanList list heading orders → length plan ≤ longestText
+      → (wrongly : PlanFault heading orders plan fault) → FirstFault list plan fault (wrongly .line)
+  first-in-plan fault heading orders clean plan-fits wrongly =
+      subst (λ given. FirstFault list plan given (wrongly .line)) (sym (wrongly .told))
+      (in-plan heading orders (wrongly .front) (wrongly .line) (wrongly .rest) (wrongly .loads) clean plan-fits (wrongly .among) (wrongly .good)
+      (wrongly .at-fault))
+
+  -- a list with a first line that reads is at fault, or else the plan
+  both-wrong-from :
+      (fault : Fault) → length list ≤ longestText → length plan ≤ longestText → (heading : Heading) → headingOf (lineAt list 0) ≡ right heading
+      → bothJudged list plan heading ≡ wrong fault → (line : List ℕ) × FirstFault list plan fault line
+  unfolding bothJudged
+  both-wrong-from fault list-fits plan-fits heading headed e =
+      ⊎-elim
+      (λ first.
+      let wrongly = list-wrong list heading headed fault .0 first in
+      (wrongly .line, first-in-list fault heading headed list-fits plan-fits wrongly))
+      (λ p.
+      let q = list-right list heading headed (p .0) (p .1) in
+      let wrongly =
+      plan-wrong heading (q .0) plan fault .0
+      (counted-wrong list plan heading (q .0) (p .0 .readies) (p .0 .dues) (q .2 .readies) (q .2 .dues) fault .0 (p .2)) in
+      (wrongly .line, first-in-plan fault heading (q .0) (record { fits = list-fits; headed = headed; ordered = q .1 }) plan-fits wrongly))
+      (one-wrong (listJudged list heading) (λ known. loadsCounted plan heading (known .readies) (known .dues)) fault e)
+
+  -- what they are judged wrong by is the first fault
+  wrong-from : (fault : Fault) → judged list plan ≡ wrong fault → (line : List ℕ) × FirstFault list plan fault line
+  wrong-from fault e =
+      by-test (leb (length list) longestText)
+      (λ one.
+      let list-fits = leb-true (length list) longestText one in
+      by-test (leb (length plan) longestText)
+      (λ other.
+      let plan-fits = leb-true (length plan) longestText other in
+      ⊎-elim
+      (λ p. (
+        lineAt list 0,
+        rw (p .2, first-length list) (in-heading list-fits plan-fits (heading-fault (lineAt list 0) (p .0) .0 (p .1))),
+      )) (λ p. both-wrong-from fault list-fits plan-fits (p .0) (p .1) (p .2))
+      (at-or-past-line false 1 0 (pastLine list 0) (headingOf (lineAt list 0)) (λ heading. bothJudged list plan heading) fault
+      (sym (fit-then list plan list-fits plan-fits) ∙ e)))
+      (λ over.
+      let long = leb-false (length plan) longestText over in
+      ([], rw (same-wrong (sym e ∙ plan-over list plan list-fits long)) (plan-long list-fits long))))
+      (λ over.
+      let long = leb-false (length list) longestText over in
+      ([], rw (same-wrong (sym e ∙ list-over list plan long)) (list-long long)))
+
+  -- by the first fault they are judged wrong
+  pub wrong-to : {fault : Fault} {line : List ℕ} → FirstFault list plan fault line → judged list plan ≡ wrong fault
+  unfolding bothJudged
+  wrong-to (list-long over) = list-over list plan over
+  wrong-to (plan-long fits over) = plan-over list plan fits over
+  wrong-to (in-heading {number = number} list-fits plan-fits wrongly) =
+      fit-then list plan list-fits plan-fits ∙ rw (heading-fault (lineAt list 0) number .1 wrongly, first-length list)
+  wrong-to (in-list {number = number} heading front line rest orders list-fits plan-fits headed among clean wrongly) =
+      fit-then list plan list-fits plan-fits
+      ∙ rw (
+        headed,
+        list-wrong list heading headed
+            (faultOf number false (firstOrderLine + length front) (length (lineAt list 0) + length (joined front))
+            (length (lineAt list 0) + length (joined front) + length line)) .1
+            (record {
+              front = front;
+              line = line;
+              rest = rest;
+              among = among;
+              orders = orders;
+              clean = clean;
+              number = number;
+              at-fault = wrongly;
+              told = rw (first-length list);
+            }),
+      )
+  wrong-to (in-plan {number = number} heading orders front line rest loads clean fits among good wrongly) =
+      let known = list-clean list heading (clean .headed) orders (clean .ordered) in
+      fit-then list plan (clean .fits) fits
+      ∙ rw (clean .headed, known .1)
+      (counted-wrong list plan heading orders (known .0 .readies) (known .0 .dues) (known .2 .readies) (known .2 .dues)
+      (faultOf number true (1 + length front) (length (joined front)) (length (joined front) + length line)) .1
+      (plan-wrong heading orders plan (faultOf number true (1 + length front) (length (joined front)) (length (joined front) + length line)) .1
+      (record {
+        front = front;
+        line = line;
+        rest = rest;
+        among = among;
+        loads = loads;
+        good = good;
+        number = number;
+        at-fault = wrongly;
+        told = refl;
+      })))
+
+  -- "The first fault is the answer, with its number, which text, its line number, and the line at fault shown as a part of the text it stands in"
+  pub fault-exactly : (fault : Fault) → (judged list plan ≡ wrong fault) ↔ FirstFault list plan fault (shown fault list plan)
+  fault-exactly fault = (
+    λ e. let first = wrong-from fault e in rw (first-shown list plan (first .1)) (first .1),
+    wrong-to,
+  )

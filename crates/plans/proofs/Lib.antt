@@ -1,0 +1,19 @@
+-- The laws of this room, by what they are about.
+pub mod Going
+pub mod Pigeonhole
+pub mod Loading
+pub mod Orders
+pub mod Planning
+pub mod Texts
+pub mod JudgementLine
+pub mod PrintPromises
+pub mod Each
+pub mod Through
+pub mod Loads
+pub mod Obeying
+pub mod Listing
+pub mod Judged
+pub mod Faults
+pub mod Front
+pub mod Desk
+pub mod Promises

@@ -1,0 +1,180 @@
+-- The loads of a plan: its lines are all noted exactly when they have no fault, and else it stops at the first that has one. Assumes nothing.
+use Prim.Native.Nat.{ℕ, _+_}
+use mathlib.Core.Path.{_≡_, refl, sym, ap, subst, _∙_}
+use mathlib.Core.Bool.{true}
+use mathlib.Core.Logic.{_↔_}
+use mathlib.Core.List.{List, [], _∷_, _++_, map, append-nil, append-assoc, nil≢cons, cons≢nil, head-eq-of-cons-eq, tail-eq-of-cons-eq}
+use lib.ListN.{length}
+use native.Mathlib.Omega.{arith}
+use Rattle.ground.specs.Refusal.{Read, wrong, right}
+use Rattle.lines.specs.Lines.{linesOf}
+use Rattle.lines.specs.Reading.{loadOf}
+use Rattle.lines.specs.Meaning.{joined}
+use Rattle.lines.specs.declared.reading.Heading.{Heading}
+use Rattle.lines.specs.declared.reading.Order.{Order}
+use Rattle.lines.specs.declared.reading.Load.{Load}
+use Rattle.plans.specs.Judging.{PlanKnown, noteLoad, planJudged}
+use Rattle.plans.specs.Meaning.{Each, EachTwo, InTime, holdOf, Apart, GoodLoads, LoadWrong}
+use Rattle.plans.specs.declared.Fault.{Fault}
+use Rattle.plans.proofs.Each.{each-none, each-before, each-first, each-rest, each-behind, each-last, each-front, two-none, two-before, two-first, two-rest}
+use Rattle.plans.proofs.Through.{faultOf, Reaches, through-right, through-wrong}
+use Rattle.plans.proofs.Loads.{knownOf, line-right, line-wrong}
+
+module _ (heading : Heading) (orders : List Order) where
+  -- what is noted of a line
+  abbrev note : PlanKnown → List ℕ → Read PlanKnown
+  note = noteLoad heading (map (λ order. order .ready) orders) (map (λ order. order .due) orders)
+
+  -- plan lines with no fault behind those of other loads
+  record GoodBehind (seen : List Load) (lines : List (List ℕ)) (loads : List Load) : Type 0 where
+    read : map (loadOf (heading .chambers)) lines ≡ map right loads
+    in-time : Each (InTime (heading .run) orders) loads
+    behind : Each (λ later. Each (λ before. Apart (holdOf heading) before later) seen) loads
+    apart : EachTwo (Apart (holdOf heading)) loads
+
+  -- none is behind any
+  good-none : (seen : List Load) → GoodBehind seen [] []
+  good-none seen = record { read = refl; in-time = each-none; behind = each-none; apart = two-none }
+
+  -- one, and the others behind it
+  good-more :
+      (seen : List Load) (line : List ℕ) (lines : List (List ℕ)) (load : Load) (loads : List Load) → loadOf (heading .chambers) line ≡ right load
+      → InTime (heading .run) orders load → Each (λ before. Apart (holdOf heading) before load) seen → GoodBehind (seen ++ load ∷ []) lines loads
+      → GoodBehind seen (line ∷ lines) (load ∷ loads)
+  good-more seen line lines load loads read kept apart later =
+      record {
+        read = λ i. read i ∷ later .read i;
+        in-time = each-before kept (later .in-time);
+        behind =
+            each-before apart
+            (record { holds = λ front one rest e. each-front load seen (later .behind .holds front one rest e) });
+        apart = two-before (record { holds = λ front one rest e. each-last load seen (later .behind .holds front one rest e) }) (later .apart);
+      }
+
+  -- the others behind one
+  good-rest :
+      (seen : List Load) (line : List ℕ) (lines : List (List ℕ)) (load : Load) (loads : List Load) → GoodBehind seen (line ∷ lines) (load ∷ loads)
+      → GoodBehind (seen ++ load ∷ []) lines loads
+  good-rest seen line lines load loads good =
+      record {
+        read = tail-eq-of-cons-eq (good .read);
+        in-time = each-rest (good .in-time);
+        behind =
+            record {
+              holds =
+                  λ front one rest e. each-behind seen (each-rest (good .behind) .holds front one rest e) (two-first (good .apart) .holds front one rest e);
+            };
+        apart = two-rest (good .apart);
+      }
+
+  -- lines that are all noted have no fault
+  good-from :
+      (seen : List Load) (lines : List (List ℕ)) (last : PlanKnown) → Reaches note (knownOf seen) lines last
+      → (loads : List Load) × GoodBehind seen lines loads × (last ≡ knownOf (seen ++ loads))
+  good-from seen [] last e = ([], good-none seen, sym e ∙ ap knownOf (sym (append-nil seen)))
+  good-from seen (line ∷ lines) last p =
+      let added = line-right heading orders seen line (p .0) .0 (p .1) in
+      let load = added .load in
+      let later = good-from (seen ++ load ∷ []) lines last (subst (λ known. Reaches note known lines last) (added .known) (p .2)) in (
+        load ∷ later .0,
+        good-more seen line lines load (later .0) (added .read) (added .in-time) (added .apart) (later .1),
+        later .2 ∙ ap knownOf (append-assoc seen (load ∷ []) (later .0)),
+      )
+
+  -- and lines with no fault are all noted
+  good-to :
+      (seen : List Load) (lines : List (List ℕ)) (loads : List Load) → GoodBehind seen lines loads
+      → Reaches note (knownOf seen) lines (knownOf (seen ++ loads))
+  good-to seen [] [] good = ap knownOf (sym (append-nil seen))
+  good-to seen [] (load ∷ loads) good = absurd (nil≢cons (good .read))
+  good-to seen (line ∷ lines) [] good = absurd (cons≢nil (good .read))
+  good-to seen (line ∷ lines) (load ∷ loads) good = (
+    knownOf (seen ++ load ∷ []),
+    line-right heading orders seen line (knownOf (seen ++ load ∷ [])) .1
+        (record {
+          load = load;
+          read = head-eq-of-cons-eq (good .read);
+          in-time = each-first (good .in-time);
+          apart = each-first (good .behind);
+          known = refl;
+        }),
+    subst (λ all. Reaches note (knownOf (seen ++ load ∷ [])) lines (knownOf all)) (append-assoc seen (load ∷ []) loads)
+        (good-to (seen ++ load ∷ []) lines loads (good-rest seen line lines load loads good)),
+  )
+
+  -- behind none they are good by themselves
+  good-exactly : (lines : List (List ℕ)) (loads : List Load) → GoodBehind [] lines loads ↔ GoodLoads heading orders lines loads
+  good-exactly lines loads = (
+    λ good. record { read = good .read; in-time = good .in-time; apart = good .apart },
+    λ good.
+        record { read = good .read; in-time = good .in-time; behind = record { holds = λ front one rest e. each-none }; apart = good .apart },
+  )
+
+  -- lines are all noted from the top exactly when they have no fault
+  pub noted-exactly :
+      (lines : List (List ℕ)) (last : PlanKnown)
+      → Reaches note (knownOf []) lines last ↔ ((loads : List Load) × GoodLoads heading orders lines loads × (last ≡ knownOf loads))
+  noted-exactly lines last = (
+    λ reached. let p = good-from [] lines last reached in (p .0, good-exactly lines (p .0) .0 (p .1), p .2),
+    λ p. subst (λ known. Reaches note (knownOf []) lines known) (sym (p .2)) (good-to [] lines (p .0) (good-exactly lines (p .0) .1 (p .1))),
+  )
+
+  -- a plan comes to what is known of its loads exactly when none of its lines has a fault
+  pub plan-right :
+      (plan : List ℕ) (last : PlanKnown)
+      → (planJudged plan heading (map (λ order. order .ready) orders) (map (λ order. order .due) orders) ≡ right last)
+      ↔ ((loads : List Load) × GoodLoads heading orders (linesOf plan) loads × (last ≡ knownOf loads))
+  unfolding planJudged
+  plan-right plan last = (
+    λ e. noted-exactly (linesOf plan) last .0 (through-right note true 1 0 (knownOf []) (linesOf plan) last .0 e),
+    λ p. through-right note true 1 0 (knownOf []) (linesOf plan) last .1 (noted-exactly (linesOf plan) last .1 p),
+  )
+
+  -- the first line of a plan at fault
+  pub record PlanFault (plan : List ℕ) (fault : Fault) : Type 0 where
+    pub front : List (List ℕ)
+    pub line : List ℕ
+    pub rest : List (List ℕ)
+    pub among : linesOf plan ≡ front ++ line ∷ rest
+    pub loads : List Load
+    pub good : GoodLoads heading orders front loads
+    pub number : ℕ
+    pub at-fault : LoadWrong heading orders loads line number
+    pub told : fault ≡ faultOf number true (1 + length front) (length (joined front)) (length (joined front) + length line)
+
+  -- and to a fault exactly when that is the fault of its first line that has one
+  pub plan-wrong :
+      (plan : List ℕ) (fault : Fault)
+      → (planJudged plan heading (map (λ order. order .ready) orders) (map (λ order. order .due) orders) ≡ wrong fault) ↔ PlanFault plan fault
+  unfolding planJudged
+  plan-wrong plan fault = (
+    λ e.
+        let stops = through-wrong note true 1 0 (knownOf []) (linesOf plan) fault .0 e in
+        let p = noted-exactly (stops .front) (stops .before) .0 (stops .reached) in
+        let from : 0 + length (joined (stops .front)) ≡ length (joined (stops .front)) = omega arith in
+        record {
+          front = stops .front;
+          line = stops .text;
+          rest = stops .rest;
+          among = stops .among;
+          loads = p .0;
+          good = p .1;
+          number = stops .number;
+          at-fault = line-wrong heading orders (p .0) (stops .text) (stops .number) .0 (rw (p .2) at (stops .refused));
+          told = rw from at (stops .told);
+        },
+    λ wrongly.
+        let from : 0 + length (joined (wrongly .front)) ≡ length (joined (wrongly .front)) = omega arith in
+        through-wrong note true 1 0 (knownOf []) (linesOf plan) fault .1
+        (record {
+          front = wrongly .front;
+          text = wrongly .line;
+          rest = wrongly .rest;
+          among = wrongly .among;
+          before = knownOf (wrongly .loads);
+          reached = noted-exactly (wrongly .front) (knownOf (wrongly .loads)) .1 (wrongly .loads, wrongly .good, refl);
+          number = wrongly .number;
+          refused = line-wrong heading orders (wrongly .loads) (wrongly .line) (wrongly .number) .1 (wrongly .at-fault);
+          told = rw from (wrongly .told);
+        }),
+  )

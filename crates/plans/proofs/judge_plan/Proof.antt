@@ -1,0 +1,235 @@
+-- `judge_plan` notes one plan line after another: what is left gives what the whole gives. The search for an overlap keeps that none of the loads before it overlaps.
+use Prim.Native.Nat.{_-_, _≤_, _<_}
+use mathlib.Core.Path.{_≡_, refl, sym, _∙_}
+use mathlib.Core.Bool.{false}
+use lib.ListN.{length, take}
+use native.Mathlib.Omega.{arith}
+use borrow.Author.Needs.{needs}
+use mathlib.Core.Logic.{⊎-elim}
+use Rattle.lines.specs.Lines.{lineAt}
+use Rattle.plans.specs.Judging.{overlapsAny}
+use Rattle.plans.specs.Steps.{Loaded}
+use Rattle.plans.proofs.Going.{moves-on}
+use Rattle.plans.proofs.Loading.{zeros-at}
+use Rattle.plans.proofs.Planning.{Reached, seen-at, reached-room, order-room, reached-top, reached-end, reached-fault, reached-next, search-on, search-found, line-refused, line-overlaps}
+use Rattle.plans.proofs.judge_plan.Statement.{statement}
+use Rattle.plans.proofs.judge_plan.Tie as tie
+
+abbrev Inv-loop : tie.InvT-loop
+Inv-loop plan chambers run readies dues lines rooms starts count line at number load earlier₀ earlier =
+    (earlier ≤ count) × (overlapsAny run (load .chamber) (load .start) (take earlier rooms) (take earlier starts) ≡ false)
+
+abbrev μ-loop : tie.MeasureT-loop
+μ-loop plan chambers run readies dues lines rooms starts count line at number load earlier₀ earlier = count - earlier
+
+abbrev Inv-plan : tie.InvT-plan
+Inv-plan plan chambers run readies dues lines₀ rooms₀ starts₀ count₀ line₀ at₀ lines rooms starts count line at =
+    Reached plan (record { chambers = chambers; run = run }) readies dues lines rooms starts count line at
+
+abbrev μ-plan : tie.MeasureT-plan
+μ-plan plan chambers run readies dues lines₀ rooms₀ starts₀ count₀ line₀ at₀ lines rooms starts count line at = length plan - at
+
+-- what a noted line is, once it is read
+loaded-at :
+    (c : tie.After-note-load Inv-loop μ-loop Inv-plan μ-plan)
+    → let p = c .before .before .before .before in
+    let a = p .before .before .before .before .args in
+    Loaded (a .chambers) (a .run) (a .readies .now) (a .dues .now) (p .plan .lines) (lineAt (a .plan .now) (p .plan .at)) (c .note-load .result)
+loaded-at c = rw (c .before .before .line-at .ensures) at (c .note-load .ensures)
+
+-- what is known of the plan at a turn
+reached-at :
+    (p : tie.At-plan Inv-loop μ-loop Inv-plan μ-plan)
+    → let a = p .before .before .before .before .args in
+    Reached (a .plan .now) (record { chambers = a .chambers; run = a .run }) (a .readies .now) (a .dues .now) (p .plan .lines) (p .plan .rooms) (p .plan .starts) (p .plan .count) (p .plan .line) (p .plan .at)
+reached-at p = p .plan .inv
+
+plan-holds : tie.Need-plan-holds Inv-loop μ-loop Inv-plan μ-plan
+plan-holds c =
+    let start = c .before .before .before in
+    reached-top (start .args .plan .now) (record { chambers = start .args .chambers; run = start .args .run }) (start .args .readies .now) (start .args .dues .now)
+    _ _ _ (start .pre .0) (refl, refl, refl) (zeros-at 512)
+
+line-at-requires : tie.Need-line-at-requires Inv-loop μ-loop Inv-plan μ-plan
+line-at-requires c κs = search needs
+
+slice-aggregate-note-load : tie.Need-slice-aggregate-note-load Inv-loop μ-loop Inv-plan μ-plan
+slice-aggregate-note-load c = search needs
+
+note-load-requires : tie.Need-note-load-requires Inv-loop μ-loop Inv-plan μ-plan
+note-load-requires c κs = search needs
+
+line-end-requires : tie.Need-line-end-requires Inv-loop μ-loop Inv-plan μ-plan
+line-end-requires c κs = search needs
+
+plan-fault-requires : tie.Need-plan-fault-requires Inv-loop μ-loop Inv-plan μ-plan
+plan-fault-requires c κs = search needs
+
+returns : tie.Need-returns Inv-loop μ-loop Inv-plan μ-plan
+returns c =
+    let k = c .before .before .before in
+    let p = k .before .before .before .before in
+    let a = p .before .before .before .before .args in
+    c .plan-fault .ensures
+    ∙ rw (c .before .line-end .ensures)
+    (sym
+    (reached-fault (reached-at p) (k .before .before .before .plan-test .taken) _
+    (line-refused (record { chambers = a .chambers; run = a .run }) (a .readies .now) (a .dues .now) (p .plan .lines) (seen-at (reached-at p)) (reached-at p .marked) (lineAt (a .plan .now) (p .plan .at)) (k .note-load .result) (loaded-at k) (λ none. omega (arith, c .before .before .if1 .taken)))))
+
+loop-holds : tie.Need-loop-holds Inv-loop μ-loop Inv-plan μ-plan
+unfolding overlapsAny
+loop-holds c = (omega arith, refl)
+
+mul-overlap : tie.Need-mul-overlap Inv-loop μ-loop Inv-plan μ-plan
+mul-overlap c = search needs
+
+array-read-overlap : tie.Need-array-read-overlap Inv-loop μ-loop Inv-plan μ-plan
+array-read-overlap c = search needs
+
+mul-overlap-2 : tie.Need-mul-overlap-2 Inv-loop μ-loop Inv-plan μ-plan
+mul-overlap-2 c = search needs
+
+array-read-overlap-2 : tie.Need-array-read-overlap-2 Inv-loop μ-loop Inv-plan μ-plan
+array-read-overlap-2 c = search needs
+
+overlap-requires : tie.Need-overlap-requires Inv-loop μ-loop Inv-plan μ-plan
+overlap-requires c κs = search needs
+
+add-earlier : tie.Need-add-earlier Inv-loop μ-loop Inv-plan μ-plan
+add-earlier c = search needs
+
+loop-less : tie.Need-loop-less Inv-loop μ-loop Inv-plan μ-plan
+loop-less c = search needs
+
+loop-again : tie.Need-loop-again Inv-loop μ-loop Inv-plan μ-plan
+loop-again c =
+    let l = c .before .before .before in
+    let p = l .before .before .before .before .before .before .before in
+    (omega arith, search-on _ _ _ (p .plan .rooms) (p .plan .starts) (l .loop .earlier) (omega (arith, reached-at p .few, reached-at p .sized .1)) (omega (arith, reached-at p .few, reached-at p .sized .2)) (l .loop .inv .1) (sym (c .before .overlap .ensures) ∙ c .if2 .left))
+
+place-of-requires : tie.Need-place-of-requires Inv-loop μ-loop Inv-plan μ-plan
+place-of-requires c κs = search needs
+
+-- there is room for the load, and for the line of its order
+room-at : (c : tie.After-place-of Inv-loop μ-loop Inv-plan μ-plan) → (c .before .before .before .before .before .before .before .before .before .plan .count < 512) × (c .place-of .result < 512)
+room-at c =
+    let k = c .before .before .before .before .before in
+    let p = k .before .before .before .before in
+    let start = p .before .before .before .before in
+    let none : k .note-load .result .refusal ≡ 0 = omega (arith, c .before .before .before .before .if1 .left) in (
+      omega (arith, start .pre .1, reached-room (reached-at p) (start .pre .1) (k .note-load .result) (loaded-at k) none),
+      omega (arith, c .place-of .ensures, order-room (reached-at p) (start .pre .1) (k .note-load .result) (loaded-at k) none),
+    )
+
+mul-lines : tie.Need-mul-lines Inv-loop μ-loop Inv-plan μ-plan
+mul-lines c = omega (arith, room-at c .1)
+
+array-write-lines : tie.Need-array-write-lines Inv-loop μ-loop Inv-plan μ-plan
+array-write-lines c = omega (arith, room-at c .1)
+
+mul-rooms : tie.Need-mul-rooms Inv-loop μ-loop Inv-plan μ-plan
+mul-rooms c = omega (arith, room-at c .0)
+
+array-write-rooms : tie.Need-array-write-rooms Inv-loop μ-loop Inv-plan μ-plan
+array-write-rooms c = omega (arith, room-at c .0)
+
+mul-starts : tie.Need-mul-starts Inv-loop μ-loop Inv-plan μ-plan
+mul-starts c = omega (arith, room-at c .0)
+
+array-write-starts : tie.Need-array-write-starts Inv-loop μ-loop Inv-plan μ-plan
+array-write-starts c = omega (arith, room-at c .0)
+
+add-count : tie.Need-add-count Inv-loop μ-loop Inv-plan μ-plan
+add-count c = search needs
+
+add-line : tie.Need-add-line Inv-loop μ-loop Inv-plan μ-plan
+add-line c = omega (arith, reached-at (c .before .before .before .before .before .before .before .before .before) .numbered .1)
+
+line-end-requires-2 : tie.Need-line-end-requires-2 Inv-loop μ-loop Inv-plan μ-plan
+line-end-requires-2 c κs = search needs
+
+plan-less : tie.Need-plan-less Inv-loop μ-loop Inv-plan μ-plan
+plan-less c =
+    let p = c .before .before .before .before .before .before .before .before .before .before in
+    omega (arith, c .line-end2 .ensures, moves-on (p .before .before .before .before .args .plan .now) (p .plan .at) (omega arith))
+
+plan-again : tie.Need-plan-again Inv-loop μ-loop Inv-plan μ-plan
+plan-again c =
+    let l = c .before .before in
+    let k = l .before .before .before .before in
+    let p = k .before .before .before .before in
+    let start = p .before .before .before .before in
+    let all : l .before .loop .earlier ≡ p .plan .count = omega arith in
+    rw (c .line-end2 .ensures, c .before .place-of .ensures)
+    (reached-next (reached-at p) (start .pre .1) (k .note-load .result) (loaded-at k) (omega (arith, l .before .before .before .if1 .left)) (k .before .before .before .plan-test .taken)
+    (rw all at (l .before .loop .inv .1)))
+
+cast-loads : tie.Need-cast-loads Inv-loop μ-loop Inv-plan μ-plan
+cast-loads c = omega (arith, reached-at (c .before .before) .few, c .before .before .before .before .before .before .pre .1)
+
+returns-2 : tie.Need-returns-2 Inv-loop μ-loop Inv-plan μ-plan
+returns-2 c =
+    let p = c .before .before in sym (reached-end (reached-at p) (omega arith))
+
+line-end-requires-3 : tie.Need-line-end-requires-3 Inv-loop μ-loop Inv-plan μ-plan
+line-end-requires-3 c κs = search needs
+
+plan-fault-requires-2 : tie.Need-plan-fault-requires-2 Inv-loop μ-loop Inv-plan μ-plan
+plan-fault-requires-2 c κs = search needs
+
+returns-3 : tie.Need-returns-3 Inv-loop μ-loop Inv-plan μ-plan
+returns-3 c =
+    let e = c .before .before in
+    let p = e .before .before in
+    let a = p .before .before .before .before .args in
+    ⊎-elim (λ over. absurd (omega (arith, over .left, e .if3 .left)))
+    (λ w.
+    c .plan-fault2 .ensures
+    ∙ rw (c .before .line-end3 .ensures)
+    (sym
+    (reached-fault (reached-at p) (w .0 .taken) 15
+    (line-overlaps (record { chambers = a .chambers; run = a .run }) (a .readies .now) (a .dues .now) (p .plan .lines) (seen-at (reached-at p)) (reached-at p .marked) (lineAt (a .plan .now) (p .plan .at)) (w .3 .result) (rw (w .1 .ensures) at (w .3 .ensures)) (omega (arith, w .4 .left))
+    (search-found _ _ _ (p .plan .rooms) (p .plan .starts) (w .6 .earlier) (omega (arith, w .7 .taken, reached-at p .few, reached-at p .sized .1)) (omega (arith, w .7 .taken, reached-at p .few, reached-at p .sized .2)) (p .plan .count) (w .7 .taken) (sym (w .8 .ensures) ∙ w .9 .taken))))))
+    (e .before .plan-test .came)
+
+pub judge-plan-spec : {M : Type 1} → statement M
+judge-plan-spec =
+    tie.close
+    (tie.spec
+    Inv-loop
+    μ-loop
+    Inv-plan
+    μ-plan
+    plan-holds
+    line-at-requires
+    slice-aggregate-note-load
+    note-load-requires
+    line-end-requires
+    plan-fault-requires
+    returns
+    loop-holds
+    mul-overlap
+    array-read-overlap
+    mul-overlap-2
+    array-read-overlap-2
+    overlap-requires
+    add-earlier
+    loop-less
+    loop-again
+    place-of-requires
+    mul-lines
+    array-write-lines
+    mul-rooms
+    array-write-rooms
+    mul-starts
+    array-write-starts
+    add-count
+    add-line
+    line-end-requires-2
+    plan-less
+    plan-again
+    cast-loads
+    returns-2
+    line-end-requires-3
+    plan-fault-requires-2
+    returns-3)
