@@ -2,13 +2,11 @@
 // What is judged and how it is printed is the library's; here it is read in, called and written out. A file that cannot be opened or read to its end is unread.
 use ground::LONGEST_TEXT;
 use hours::Written;
+use pieces::LINE_ROOM;
 use plans::printing::write_judgement;
 
 // Room for a text, and for one byte more, which tells that it is too long.
 const ROOM: usize = LONGEST_TEXT + 1;
-
-// Room for the line of a judgement.
-const LINE_ROOM: usize = 48;
 
 fn main() {
     let mut list = [0u8; ROOM];

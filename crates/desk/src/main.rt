@@ -8,12 +8,10 @@ use hours::Written;
 use orders::answers;
 use orders::answers::Progress;
 use orders::replies;
+use pieces::LINE_ROOM;
 
 // Room for a list, and for one byte more, which tells that a text is too long.
 const ROOM: usize = LONGEST_TEXT + 1;
-
-// Room for any line of a reply.
-const LINE_ROOM: usize = 48;
 
 fn main() {
     let mut list = [0u8; ROOM];

@@ -14,13 +14,11 @@ ghost use Rattle.orders.specs.Steps.{answerRoom, lineRoom};
 use book::Answer;
 use ground::LAST_HOUR;
 use hours::Written;
+use pieces::LINE_ROOM;
 use pieces::put_hour;
 use pieces::put_number;
 use pieces::put_word;
 use pieces::write_text;
-
-// Room enough for any line of a reply.
-const LINE_ROOM: usize = 48;
 
 // An answer's start, where it has one, is an hour.
 fn start_in_range(answer: Answer) -> bool

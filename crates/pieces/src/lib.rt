@@ -15,6 +15,9 @@ use hours::digit_count;
 use hours::put_digits;
 use hours::write_hour;
 
+// Room enough for any line that a program prints, which has four fields at most: two words, or a word and an hour, and two numbers of ten digits.
+pub const LINE_ROOM: usize = 48;
+
 // Whether a field of so many bytes, and the byte that stops it, have room from a place on.
 fn has_room(at: usize, length: usize, room: usize) -> bool
     ensures { λ r. ⌜ r ≡ ltb (at + length) room ⌝ }

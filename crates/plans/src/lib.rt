@@ -295,6 +295,7 @@ fn judge_plan(plan: &[u8], chambers: u32, run: u32, readies: &[u32], dues: &[u32
     requires { ⌜ length (now readies) ≤ mostOrders ⌝ }
     ensures { λ r. ⌜ asJudged r ≡ loadsCounted (now (plan .entry)) (record { chambers = chambers; run = run }) (now (readies .entry)) (now (dues .entry)) ⌝ }
 {
+    let hold = run;
     let mut lines = [0u32; ORDERS];
     let mut rooms = [0u32; ORDERS];
     let mut starts = [0u32; ORDERS];
@@ -311,7 +312,7 @@ fn judge_plan(plan: &[u8], chambers: u32, run: u32, readies: &[u32], dues: &[u32
         let mut earlier: usize = 0;
         while earlier < count {
             if overlap(
-                run,
+                hold,
                 load.chamber,
                 load.start,
                 rooms[earlier],

@@ -13,12 +13,10 @@ ghost use Rattle.plans.specs.Printing.{textWord, judgementLine};
 use crate::Fault;
 use crate::Judgement;
 use hours::Written;
+use pieces::LINE_ROOM;
 use pieces::put_number;
 use pieces::put_word;
 use pieces::write_text;
-
-// Room enough for the line of any judgement.
-const LINE_ROOM: usize = 48;
 
 // Puts the word for the text at fault and a tab at a place, and answers the place behind them; the place itself where they have no room.
 fn put_text(plan: bool, at: usize, printed: &mut [u8]) -> usize

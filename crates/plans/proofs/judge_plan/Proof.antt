@@ -16,18 +16,18 @@ use Rattle.plans.proofs.judge_plan.Statement.{statement}
 use Rattle.plans.proofs.judge_plan.Tie as tie
 
 abbrev Inv-loop : tie.InvT-loop
-Inv-loop plan chambers run readies dues lines rooms starts count line at number load earlier₀ earlier =
+Inv-loop plan chambers run readies dues hold lines rooms starts count line at number load earlier₀ earlier =
     (earlier ≤ count) × (overlapsAny run (load .chamber) (load .start) (take earlier rooms) (take earlier starts) ≡ false)
 
 abbrev μ-loop : tie.MeasureT-loop
-μ-loop plan chambers run readies dues lines rooms starts count line at number load earlier₀ earlier = count - earlier
+μ-loop plan chambers run readies dues hold lines rooms starts count line at number load earlier₀ earlier = count - earlier
 
 abbrev Inv-plan : tie.InvT-plan
-Inv-plan plan chambers run readies dues lines₀ rooms₀ starts₀ count₀ line₀ at₀ lines rooms starts count line at =
+Inv-plan plan chambers run readies dues hold lines₀ rooms₀ starts₀ count₀ line₀ at₀ lines rooms starts count line at =
     Reached plan (record { chambers = chambers; run = run }) readies dues lines rooms starts count line at
 
 abbrev μ-plan : tie.MeasureT-plan
-μ-plan plan chambers run readies dues lines₀ rooms₀ starts₀ count₀ line₀ at₀ lines rooms starts count line at = length plan - at
+μ-plan plan chambers run readies dues hold lines₀ rooms₀ starts₀ count₀ line₀ at₀ lines rooms starts count line at = length plan - at
 
 -- what a noted line is, once it is read
 loaded-at :
