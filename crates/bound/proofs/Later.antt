@@ -1,0 +1,64 @@
+-- A plan after its list's first order is answered: the load of that order left out, and the others counted from the next order on. It is a good plan for the other orders. Assumes nothing.
+use Prim.Native.Nat.{ℕ, zero, suc}
+use mathlib.Core.Path.{ap}
+use mathlib.Core.List.{List, [], _∷_}
+use Rattle.book.specs.History.{Order}
+use Rattle.bound.specs.Plans.{PlanLoad, KeepsTo, GoodLoad, Apart, ApartFrom, GoodPlan}
+
+-- a load by its numbers
+abbrev pub loadAt : ℕ → ℕ → ℕ → PlanLoad
+loadAt place chamber start = record { order = place; chamber = chamber; start = start }
+
+-- a load before others, moved up by one order; one of the first order falls out
+abbrev pub moved : ℕ → ℕ → ℕ → List PlanLoad → List PlanLoad
+moved zero chamber start loads = loads
+moved (suc place) chamber start loads = loadAt place chamber start ∷ loads
+
+-- the loads of the later orders
+unfoldable pub later : List PlanLoad → List PlanLoad
+later [] = []
+later (load ∷ loads) = moved (load .order) (load .chamber) (load .start) (later loads)
+
+-- two loads of later orders stay apart
+apart-moved :
+    (hold place chamber start other-place other-chamber other-start : ℕ) (loads : List PlanLoad)
+    → Apart hold (loadAt (suc place) chamber start) (loadAt other-place other-chamber other-start)
+    → ApartFrom hold (loadAt place chamber start) loads
+    → ApartFrom hold (loadAt place chamber start) (moved other-place other-chamber other-start loads)
+unfolding ApartFrom
+apart-moved hold place chamber start zero other-chamber other-start loads apart rest = rest
+apart-moved hold place chamber start (suc other-place) other-chamber other-start loads apart rest = (
+  record { orders-differ = λ same. apart .orders-differ (ap suc same); never-overlap = apart .never-overlap },
+  rest,
+)
+
+-- a load stays apart from those of later orders
+apart-later :
+    (hold place chamber start : ℕ) (loads : List PlanLoad) → ApartFrom hold (loadAt (suc place) chamber start) loads
+    → ApartFrom hold (loadAt place chamber start) (later loads)
+unfolding ApartFrom later
+apart-later hold place chamber start [] apart = tt
+apart-later hold place chamber start (other ∷ loads) apart =
+    apart-moved hold place chamber start (other .order) (other .chamber) (other .start) (later loads) (apart .0)
+    (apart-later hold place chamber start loads (apart .1))
+
+module _ (chambers run hold : ℕ) (order : Order) (orders : List Order) where
+  -- a load stays good
+  good-moved :
+      (place chamber start : ℕ) (loads : List PlanLoad) → GoodLoad chambers run (order ∷ orders) (loadAt place chamber start)
+      → ApartFrom hold (loadAt place chamber start) loads → GoodPlan chambers run hold orders (later loads)
+      → GoodPlan chambers run hold orders (moved place chamber start (later loads))
+  unfolding GoodPlan KeepsTo
+  good-moved zero chamber start loads good apart rest = rest
+  good-moved (suc place) chamber start loads good apart rest = (
+    record { keeps = good .keeps; numbered = good .numbered },
+    apart-later hold place chamber start loads apart,
+    rest,
+  )
+
+  -- the plan stays good
+  pub good-later : (loads : List PlanLoad) → GoodPlan chambers run hold (order ∷ orders) loads → GoodPlan chambers run hold orders (later loads)
+  unfolding GoodPlan later
+  good-later [] good = tt
+  good-later (load ∷ loads) good =
+      good-moved (load .order) (load .chamber) (load .start) loads (good .0) (good .1) (good-later loads (good .2))

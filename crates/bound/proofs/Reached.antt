@@ -1,0 +1,36 @@
+-- With one chamber the limit is reached: of two orders the rule keeps one, and a good plan has both. So the definitions are no empty ones, and for one chamber no greater part can be promised. Assumes nothing.
+use Prim.Native.Nat.{_*_}
+use mathlib.Core.Path.{_≡_, refl}
+use mathlib.Core.List.{List, [], _∷_}
+use lib.ListN.{length, replicate}
+use native.Mathlib.Omega.{arith}
+use Rattle.book.specs.BestFit.{offer, bestFit}
+use Rattle.book.specs.History.{Order}
+use Rattle.bound.specs.Plans.{keptOf, InTurn, PlanLoad, KeepsTo, ApartFrom, GoodPlan}
+
+-- an order with time, and a later one with none
+abbrev pub twoOrders : List Order
+twoOrders = record { ready = 0; due = 700 } ∷ record { ready = 100; due = 400 } ∷ []
+
+-- the second runs at once, and the first after it
+abbrev pub bothLoads : List PlanLoad
+bothLoads = record { order = 0; chamber = 1; start = 400 } ∷ record { order = 1; chamber = 1; start = 100 } ∷ []
+
+-- ready hours never fall
+pub reached-in-turn : InTurn 0 twoOrders
+unfolding InTurn
+reached-in-turn = (omega arith, (omega arith, tt))
+
+-- the plan is good
+pub reached-plan : GoodPlan 1 300 300 twoOrders bothLoads
+unfolding GoodPlan KeepsTo ApartFrom
+reached-plan = (
+  record { keeps = (omega arith, omega arith); numbered = (omega arith, omega arith) },
+  (record { orders-differ = λ same. omega arith; never-overlap = λ together one other. omega arith }, tt),
+  (record { keeps = (omega arith, omega arith); numbered = (omega arith, omega arith) }, tt, tt),
+)
+
+-- the rule keeps half of it
+pub reached : 1 * length bothLoads ≡ 2 * keptOf 300 300 (replicate 1 0) twoOrders
+unfolding keptOf bestFit offer
+reached = refl

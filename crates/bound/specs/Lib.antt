@@ -1,0 +1,2 @@
+-- What the theorem of this room speaks of.
+pub mod Plans
