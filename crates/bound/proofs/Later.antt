@@ -3,7 +3,7 @@ use Prim.Native.Nat.{ℕ, zero, suc}
 use mathlib.Core.Path.{ap}
 use mathlib.Core.List.{List, [], _∷_}
 use Rattle.book.specs.History.{Order}
-use Rattle.bound.specs.Plans.{PlanLoad, KeepsTo, GoodLoad, Apart, ApartFrom, GoodPlan}
+use Rattle.bound.specs.Plans.{Lengths, PlanLoad, KeepsTo, GoodLoad, Apart, ApartFrom, GoodPlan}
 
 -- a load by its numbers
 abbrev pub loadAt : ℕ → ℕ → ℕ → PlanLoad
@@ -21,43 +21,43 @@ later (load ∷ loads) = moved (load .order) (load .chamber) (load .start) (late
 
 -- two loads of later orders stay apart
 apart-moved :
-    (hold place chamber start other-place other-chamber other-start : ℕ) (loads : List PlanLoad)
-    → Apart hold (loadAt (suc place) chamber start) (loadAt other-place other-chamber other-start)
-    → ApartFrom hold (loadAt place chamber start) loads
-    → ApartFrom hold (loadAt place chamber start) (moved other-place other-chamber other-start loads)
+    (lengths : Lengths) (place chamber start other-place other-chamber other-start : ℕ) (loads : List PlanLoad)
+    → Apart lengths (loadAt (suc place) chamber start) (loadAt other-place other-chamber other-start)
+    → ApartFrom lengths (loadAt place chamber start) loads
+    → ApartFrom lengths (loadAt place chamber start) (moved other-place other-chamber other-start loads)
 unfolding ApartFrom
-apart-moved hold place chamber start zero other-chamber other-start loads apart rest = rest
-apart-moved hold place chamber start (suc other-place) other-chamber other-start loads apart rest = (
+apart-moved lengths place chamber start zero other-chamber other-start loads apart rest = rest
+apart-moved lengths place chamber start (suc other-place) other-chamber other-start loads apart rest = (
   record { orders-differ = λ same. apart .orders-differ (ap suc same); never-overlap = apart .never-overlap },
   rest,
 )
 
 -- a load stays apart from those of later orders
 apart-later :
-    (hold place chamber start : ℕ) (loads : List PlanLoad) → ApartFrom hold (loadAt (suc place) chamber start) loads
-    → ApartFrom hold (loadAt place chamber start) (later loads)
+    (lengths : Lengths) (place chamber start : ℕ) (loads : List PlanLoad) → ApartFrom lengths (loadAt (suc place) chamber start) loads
+    → ApartFrom lengths (loadAt place chamber start) (later loads)
 unfolding ApartFrom later
-apart-later hold place chamber start [] apart = tt
-apart-later hold place chamber start (other ∷ loads) apart =
-    apart-moved hold place chamber start (other .order) (other .chamber) (other .start) (later loads) (apart .0)
-    (apart-later hold place chamber start loads (apart .1))
+apart-later lengths place chamber start [] apart = tt
+apart-later lengths place chamber start (other ∷ loads) apart =
+    apart-moved lengths place chamber start (other .order) (other .chamber) (other .start) (later loads) (apart .0)
+    (apart-later lengths place chamber start loads (apart .1))
 
-module _ (chambers run hold : ℕ) (order : Order) (orders : List Order) where
+module _ (chambers : ℕ) (lengths : Lengths) (order : Order) (orders : List Order) where
   -- a load stays good
   good-moved :
-      (place chamber start : ℕ) (loads : List PlanLoad) → GoodLoad chambers run (order ∷ orders) (loadAt place chamber start)
-      → ApartFrom hold (loadAt place chamber start) loads → GoodPlan chambers run hold orders (later loads)
-      → GoodPlan chambers run hold orders (moved place chamber start (later loads))
+      (place chamber start : ℕ) (loads : List PlanLoad) → GoodLoad chambers (lengths .run) (order ∷ orders) (loadAt place chamber start)
+      → ApartFrom lengths (loadAt place chamber start) loads → GoodPlan chambers lengths orders (later loads)
+      → GoodPlan chambers lengths orders (moved place chamber start (later loads))
   unfolding GoodPlan KeepsTo
   good-moved zero chamber start loads good apart rest = rest
   good-moved (suc place) chamber start loads good apart rest = (
     record { keeps = good .keeps; numbered = good .numbered },
-    apart-later hold place chamber start loads apart,
+    apart-later lengths place chamber start loads apart,
     rest,
   )
 
   -- the plan stays good
-  pub good-later : (loads : List PlanLoad) → GoodPlan chambers run hold (order ∷ orders) loads → GoodPlan chambers run hold orders (later loads)
+  pub good-later : (loads : List PlanLoad) → GoodPlan chambers lengths (order ∷ orders) loads → GoodPlan chambers lengths orders (later loads)
   unfolding GoodPlan later
   good-later [] good = tt
   good-later (load ∷ loads) good =

@@ -5,7 +5,7 @@ use mathlib.Core.List.{List, [], _∷_, _++_}
 use lib.ListN.{length, replicate, length-replicate}
 use native.Mathlib.Omega.{arith}
 use Rattle.book.specs.History.{Order}
-use Rattle.bound.specs.Plans.{keptOf, InTurn, PlanLoad, GoodPlan}
+use Rattle.bound.specs.Plans.{Lengths, keptOf, InTurn, PlanLoad, GoodPlan}
 use Rattle.bound.proofs.Weights.{pre, weight-pre, first-weight, last-weight}
 use Rattle.bound.proofs.Counting.{none-above}
 use Rattle.bound.proofs.Windows.{sum}
@@ -18,37 +18,37 @@ all-steps m = omega (arith, weight-pre m m (omega arith), first-weight m, last-w
 
 -- from chambers that are free from hour 0 each load gains the sum of all steps
 each-gains :
-    (m run hold : ℕ) (orders : List Order) (loads : List PlanLoad) → InTurn 0 orders → GoodPlan m run hold orders loads
-    → pre m m * length loads ≤ sum (totalOf m run hold (replicate m 0) orders) loads
+    (m : ℕ) (lengths : Lengths) (orders : List Order) (loads : List PlanLoad) → InTurn 0 orders → GoodPlan m lengths orders loads
+    → pre m m * length loads ≤ sum (totalOf m lengths (replicate m 0) orders) loads
 unfolding sum GoodPlan pre
-each-gains m run hold orders [] turn good = omega arith
-each-gains m run hold orders (load ∷ loads) turn good =
-    let one : pre m m ≤ pre m 0 + totalOf m run hold (replicate m 0) orders load =
+each-gains m lengths orders [] turn good = omega arith
+each-gains m lengths orders (load ∷ loads) turn good =
+    let one : pre m m ≤ pre m 0 + totalOf m lengths (replicate m 0) orders load =
     rw (none-above (load .start) m) at
-    (lower m run hold 0 (replicate m 0) orders (load .order) (load .start) (length-replicate m 0) turn (good .0 .keeps))
+    (lower m (lengths .run) (lengths .hold) 0 (replicate m 0) orders (load .order) (load .start) (length-replicate m 0) turn (good .0 .keeps))
     in
-    let rest = each-gains m run hold orders loads turn (good .2) in
+    let rest = each-gains m lengths orders loads turn (good .2) in
     omega arith
 
 -- the limit: with m chambers, for Z loads of any good plan and A orders that the rule keeps, ((m + 1)^m − m^m) · Z ≤ (m + 1)^m · A.
 -- It asks nothing of m, run and hold: with no chamber no load is good, and hold and run are compared nowhere
 pub limit :
-    (m run hold : ℕ) (orders : List Order) (loads : List PlanLoad) → InTurn 0 orders → GoodPlan m run hold orders loads
-    → ((m + 1) ^ m - m ^ m) * length loads ≤ (m + 1) ^ m * keptOf run hold (replicate m 0) orders
-limit m run hold orders loads turn good =
+    (m : ℕ) (lengths : Lengths) (orders : List Order) (loads : List PlanLoad) → InTurn 0 orders → GoodPlan m lengths orders loads
+    → ((m + 1) ^ m - m ^ m) * length loads ≤ (m + 1) ^ m * keptOf lengths (replicate m 0) orders
+limit m lengths orders loads turn good =
     let steps = all-steps m in
     let factor : (m + 1) ^ m - m ^ m ≡ pre m m = omega arith in
-    let below = each-gains m run hold orders loads turn good in
-    let over : sum (totalOf m run hold (replicate m 0) orders) loads ≤ (m + 1) ^ m * keptOf run hold (replicate m 0) orders =
-    rw (last-weight m) at (upper m run hold (replicate m 0) orders loads (length-replicate m 0) good)
+    let below = each-gains m lengths orders loads turn good in
+    let over : sum (totalOf m lengths (replicate m 0) orders) loads ≤ (m + 1) ^ m * keptOf lengths (replicate m 0) orders =
+    rw (last-weight m) at (upper m lengths (replicate m 0) orders loads (length-replicate m 0) good)
     in
     rw factor (omega arith)
 
 -- two chambers: at least 5 of 9
 pub limit-of-two :
-    (run hold : ℕ) (orders : List Order) (loads : List PlanLoad) → InTurn 0 orders → GoodPlan 2 run hold orders loads
-    → 5 * length loads ≤ 9 * keptOf run hold (replicate 2 0) orders
-limit-of-two run hold orders loads turn good = limit 2 run hold orders loads turn good
+    (lengths : Lengths) (orders : List Order) (loads : List PlanLoad) → InTurn 0 orders → GoodPlan 2 lengths orders loads
+    → 5 * length loads ≤ 9 * keptOf lengths (replicate 2 0) orders
+limit-of-two lengths orders loads turn good = limit 2 lengths orders loads turn good
 
 -- the first orders of a list in turn are in turn
 front-in-turn : (clock : ℕ) (front rest : List Order) → InTurn clock (front ++ rest) → InTurn clock front
@@ -58,6 +58,6 @@ front-in-turn clock (order ∷ front) rest turn = (turn .0, front-in-turn (order
 
 -- the limit holds after every order, not only at the end: for the first orders of a list, and every good plan for them
 pub limit-at-front :
-    (m run hold : ℕ) (front rest : List Order) (loads : List PlanLoad) → InTurn 0 (front ++ rest) → GoodPlan m run hold front loads
-    → ((m + 1) ^ m - m ^ m) * length loads ≤ (m + 1) ^ m * keptOf run hold (replicate m 0) front
-limit-at-front m run hold front rest loads turn good = limit m run hold front loads (front-in-turn 0 front rest turn) good
+    (m : ℕ) (lengths : Lengths) (front rest : List Order) (loads : List PlanLoad) → InTurn 0 (front ++ rest) → GoodPlan m lengths front loads
+    → ((m + 1) ^ m - m ^ m) * length loads ≤ (m + 1) ^ m * keptOf lengths (replicate m 0) front
+limit-at-front m lengths front rest loads turn good = limit m lengths front loads (front-in-turn 0 front rest turn) good

@@ -6,7 +6,11 @@ use lib.ListN.{length, replicate}
 use native.Mathlib.Omega.{arith}
 use Rattle.book.specs.BestFit.{offer, bestFit}
 use Rattle.book.specs.History.{Order}
-use Rattle.bound.specs.Plans.{keptOf, InTurn, PlanLoad, KeepsTo, ApartFrom, GoodPlan}
+use Rattle.bound.specs.Plans.{Lengths, keptOf, InTurn, PlanLoad, KeepsTo, ApartFrom, GoodPlan}
+
+-- runs of three hours
+abbrev pub threeHours : Lengths
+threeHours = record { run = 300; hold = 300 }
 
 -- an order with time, and a later one with none
 abbrev pub twoOrders : List Order
@@ -22,7 +26,7 @@ unfolding InTurn
 reached-in-turn = (omega arith, (omega arith, tt))
 
 -- the plan is good
-pub reached-plan : GoodPlan 1 300 300 twoOrders bothLoads
+pub reached-plan : GoodPlan 1 threeHours twoOrders bothLoads
 unfolding GoodPlan KeepsTo ApartFrom
 reached-plan = (
   record { keeps = (omega arith, omega arith); numbered = (omega arith, omega arith) },
@@ -31,6 +35,6 @@ reached-plan = (
 )
 
 -- the rule keeps half of it
-pub reached : 1 * length bothLoads ≡ 2 * keptOf 300 300 (replicate 1 0) twoOrders
+pub reached : 1 * length bothLoads ≡ 2 * keptOf threeHours (replicate 1 0) twoOrders
 unfolding keptOf bestFit offer
 reached = refl

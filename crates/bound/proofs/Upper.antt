@@ -11,7 +11,7 @@ use Rattle.ground.proofs.Tests.{by-test}
 use Rattle.book.specs.History.{Order}
 use Rattle.book.specs.declared.Choice.{Choice}
 use Rattle.book.specs.declared.Choice.the-variants.{Nothing, Chamber}
-use Rattle.bound.specs.Plans.{choiceOf, freeAfter, keptBy, keptOf, PlanLoad, KeepsTo, GoodLoad, ApartFrom, GoodPlan}
+use Rattle.bound.specs.Plans.{Lengths, choiceOf, freeAfter, keptBy, keptOf, PlanLoad, KeepsTo, GoodLoad, ApartFrom, GoodPlan}
 use Rattle.bound.proofs.Weights.{weight, step, pre, steps-grow, pre-grows, steps-and-rest}
 use Rattle.bound.proofs.Counting.{above, unfit, window, unfit-above, window-from}
 use Rattle.bound.proofs.OneOrder.{CountedYes, Counted, counted}
@@ -24,8 +24,8 @@ abbrev gainOf : ℕ → ℕ → List ℕ → Choice → PlanLoad → ℕ
 gainOf m hold free choice load = gain m hold free choice (load .order) (load .start)
 
 -- what a load gains by all answers up to that to its own order
-abbrev pub totalOf : ℕ → ℕ → ℕ → List ℕ → List Order → PlanLoad → ℕ
-totalOf m run hold free orders load = total m run hold free orders (load .order) (load .start)
+abbrev pub totalOf : ℕ → Lengths → List ℕ → List Order → PlanLoad → ℕ
+totalOf m lengths free orders load = total m (lengths .run) (lengths .hold) free orders (load .order) (load .start)
 
 -- what a load gains by its own order
 abbrev ownOf : ℕ → List ℕ → PlanLoad → ℕ
@@ -42,14 +42,14 @@ not-own (suc place) rest other = refl
 
 -- beside a load of the order no other gains by its own order
 none-own :
-    (m hold : ℕ) (free : List ℕ) (load : PlanLoad) (loads : List PlanLoad) → load .order ≡ 0 → ApartFrom hold load loads
+    (m : ℕ) (lengths : Lengths) (free : List ℕ) (load : PlanLoad) (loads : List PlanLoad) → load .order ≡ 0 → ApartFrom lengths load loads
     → sum (ownOf m free) loads ≡ 0
 unfolding sum ApartFrom
-none-own m hold free load [] own apart = refl
-none-own m hold free load (other ∷ loads) own apart =
+none-own m lengths free load [] own apart = refl
+none-own m lengths free load (other ∷ loads) own apart =
     rw (
       not-own (other .order) (pre m m - pre m (above (other .start) free)) (λ own-too. apart .0 .orders-differ (omega arith)),
-      none-own m hold free load loads own (apart .1),
+      none-own m lengths free load loads own (apart .1),
     )
     refl
 
@@ -59,51 +59,51 @@ unfolding sum
 no-gains m hold free [] = refl
 no-gains m hold free (load ∷ loads) = rw (no-gains m hold free loads) refl
 
-module _ (m run hold : ℕ) (free : List ℕ) (order : Order) where
+module _ (m : ℕ) (lengths : Lengths) (free : List ℕ) (order : Order) where
   -- the step of a window is at most that of the chambers that do not fit
   step-most :
-      (chamber start hour : ℕ) → length free ≡ m → CountedYes (order .ready) (order .due) run 1 free chamber start
-      → window start hold hour * step m (above hour free) ≤ window start hold hour * step m (unfitOf run free order)
+      (chamber start hour : ℕ) → length free ≡ m → CountedYes (order .ready) (order .due) (lengths .run) 1 free chamber start
+      → window start (lengths .hold) hour * step m (above hour free) ≤ window start (lengths .hold) hour * step m (unfitOf (lengths .run) free order)
   step-most chamber start hour sized known =
-      by-test (leb 1 (window start hold hour))
+      by-test (leb 1 (window start (lengths .hold) hour))
       (λ inside.
-      let from = window-from start hold hour (leb-true 1 (window start hold hour) inside) in
+      let from = window-from start (lengths .hold) hour (leb-true 1 (window start (lengths .hold) hour) inside) in
       let few = known .taken-unfit hour from in
-      let up : above hour free + (unfitOf run free order - above hour free) ≡ unfitOf run free order = omega arith in
-      let grown : step m (above hour free) ≤ step m (unfitOf run free order) =
-      rw up at (steps-grow m (above hour free) (unfitOf run free order - above hour free) (omega (arith, known .some-fits)))
+      let up : above hour free + (unfitOf (lengths .run) free order - above hour free) ≡ unfitOf (lengths .run) free order = omega arith in
+      let grown : step m (above hour free) ≤ step m (unfitOf (lengths .run) free order) =
+      rw up at (steps-grow m (above hour free) (unfitOf (lengths .run) free order - above hour free) (omega (arith, known .some-fits)))
       in
-      mul-le-mul-left (window start hold hour) grown)
+      mul-le-mul-left (window start (lengths .hold) hour) grown)
       (λ outside.
-      let none : window start hold hour ≡ 0 = omega (arith, leb-false 1 (window start hold hour) outside) in rw none (omega arith))
+      let none : window start (lengths .hold) hour ≡ 0 = omega (arith, leb-false 1 (window start (lengths .hold) hour) outside) in rw none (omega arith))
 
   -- the rest that the load of the order itself gains is at most what is left over the chambers that do not fit
   rest-most :
-      (hour : ℕ) → order .ready ≤ hour → hour + run ≤ order .due
-      → pre m m - pre m (above hour free) ≤ pre m m - pre m (unfitOf run free order)
+      (hour : ℕ) → order .ready ≤ hour → hour + lengths .run ≤ order .due
+      → pre m m - pre m (above hour free) ≤ pre m m - pre m (unfitOf (lengths .run) free order)
   rest-most hour early late =
-      let few = unfit-above (order .ready) (order .due) run hour free early late in
-      let up : unfitOf run free order + (above hour free - unfitOf run free order) ≡ above hour free = omega arith in
-      let grown : pre m (unfitOf run free order) ≤ pre m (above hour free) =
-      rw up at (pre-grows m (unfitOf run free order) (above hour free - unfitOf run free order))
+      let few = unfit-above (order .ready) (order .due) (lengths .run) hour free early late in
+      let up : unfitOf (lengths .run) free order + (above hour free - unfitOf (lengths .run) free order) ≡ above hour free = omega arith in
+      let grown : pre m (unfitOf (lengths .run) free order) ≤ pre m (above hour free) =
+      rw up at (pre-grows m (unfitOf (lengths .run) free order) (above hour free - unfitOf (lengths .run) free order))
       in
       omega arith
 
   -- one load's part of the next law
   own-step :
-      (orders : List Order) (place chamber start : ℕ) (loads : List PlanLoad) → GoodLoad m run (order ∷ orders) (loadAt place chamber start)
-      → ApartFrom hold (loadAt place chamber start) loads
-      → sum (ownOf m free) loads ≤ pre m m - pre m (unfitOf run free order)
-      → ownOf m free (loadAt place chamber start) + sum (ownOf m free) loads ≤ pre m m - pre m (unfitOf run free order)
+      (orders : List Order) (place chamber start : ℕ) (loads : List PlanLoad) → GoodLoad m (lengths .run) (order ∷ orders) (loadAt place chamber start)
+      → ApartFrom lengths (loadAt place chamber start) loads
+      → sum (ownOf m free) loads ≤ pre m m - pre m (unfitOf (lengths .run) free order)
+      → ownOf m free (loadAt place chamber start) + sum (ownOf m free) loads ≤ pre m m - pre m (unfitOf (lengths .run) free order)
   unfolding KeepsTo
   own-step orders zero chamber start loads good apart rest =
-      rw (none-own m hold free (loadAt zero chamber start) loads refl apart) (omega (arith, rest-most start (good .keeps .0) (good .keeps .1)))
+      rw (none-own m lengths free (loadAt zero chamber start) loads refl apart) (omega (arith, rest-most start (good .keeps .0) (good .keeps .1)))
   own-step orders (suc place) chamber start loads good apart rest = omega (arith, rest)
 
   -- one load at most gains by its own order
   own-most :
-      (orders : List Order) (loads : List PlanLoad) → GoodPlan m run hold (order ∷ orders) loads
-      → sum (ownOf m free) loads ≤ pre m m - pre m (unfitOf run free order)
+      (orders : List Order) (loads : List PlanLoad) → GoodPlan m lengths (order ∷ orders) loads
+      → sum (ownOf m free) loads ≤ pre m m - pre m (unfitOf (lengths .run) free order)
   unfolding sum GoodPlan
   own-most orders [] good = omega arith
   own-most orders (load ∷ loads) good =
@@ -111,9 +111,9 @@ module _ (m run hold : ℕ) (free : List ℕ) (order : Order) where
 
   -- by a yes all loads gain a step for each in its window, and what the load of the order itself gains
   gains-parted :
-      (chamber start : ℕ) (loads : List PlanLoad) → length free ≡ m → CountedYes (order .ready) (order .due) run 1 free chamber start
-      → sum (gainOf m hold free (Chamber chamber start)) loads
-      ≤ sum (inWindow start hold) loads * step m (unfitOf run free order) + sum (ownOf m free) loads
+      (chamber start : ℕ) (loads : List PlanLoad) → length free ≡ m → CountedYes (order .ready) (order .due) (lengths .run) 1 free chamber start
+      → sum (gainOf m (lengths .hold) free (Chamber chamber start)) loads
+      ≤ sum (inWindow start lengths) loads * step m (unfitOf (lengths .run) free order) + sum (ownOf m free) loads
   unfolding sum
   gains-parted chamber start [] sized known = omega arith
   gains-parted chamber start (load ∷ loads) sized known =
@@ -123,23 +123,23 @@ module _ (m run hold : ℕ) (free : List ℕ) (order : Order) where
 
   -- by one answer all loads gain at most the last weight if it is a yes, and nothing if it is a no
   one-answer :
-      (choice : Choice) (orders : List Order) (loads : List PlanLoad) → length free ≡ m → Counted (order .ready) (order .due) run 1 free choice
-      → GoodPlan m run hold (order ∷ orders) loads → sum (gainOf m hold free choice) loads ≤ weight m m * keptBy choice
-  one-answer Nothing orders loads sized known good = omega (arith, no-gains m hold free loads)
+      (choice : Choice) (orders : List Order) (loads : List PlanLoad) → length free ≡ m → Counted (order .ready) (order .due) (lengths .run) 1 free choice
+      → GoodPlan m lengths (order ∷ orders) loads → sum (gainOf m (lengths .hold) free choice) loads ≤ weight m m * keptBy choice
+  one-answer Nothing orders loads sized known good = omega (arith, no-gains m (lengths .hold) free loads)
   one-answer (Chamber chamber start) orders loads sized known good =
       let parted = gains-parted chamber start loads sized known in
-      let windows = mul-le-mul-right (step m (unfitOf run free order)) (few-in-window start hold m run (order ∷ orders) loads good) in
+      let windows = mul-le-mul-right (step m (unfitOf (lengths .run) free order)) (few-in-window start lengths m (order ∷ orders) loads good) in
       let own = own-most orders loads good in
-      let together = steps-and-rest m (unfitOf run free order) (omega (arith, known .some-fits)) in
+      let together = steps-and-rest m (unfitOf (lengths .run) free order) (omega (arith, known .some-fits)) in
       omega arith
 
   -- one load's part of the next law
   total-step :
       (orders : List Order) (place chamber start : ℕ) (loads : List PlanLoad)
-      → totalOf m run hold free (order ∷ orders) (loadAt place chamber start)
-      + sum (totalOf m run hold (freeAfter hold free (choiceOf run free order)) orders) loads
-      ≡ gainOf m hold free (choiceOf run free order) (loadAt place chamber start)
-      + sum (totalOf m run hold (freeAfter hold free (choiceOf run free order)) orders) (moved place chamber start loads)
+      → totalOf m lengths free (order ∷ orders) (loadAt place chamber start)
+      + sum (totalOf m lengths (freeAfter (lengths .hold) free (choiceOf (lengths .run) free order)) orders) loads
+      ≡ gainOf m (lengths .hold) free (choiceOf (lengths .run) free order) (loadAt place chamber start)
+      + sum (totalOf m lengths (freeAfter (lengths .hold) free (choiceOf (lengths .run) free order)) orders) (moved place chamber start loads)
   unfolding total sum
   total-step orders zero chamber start loads = refl
   total-step orders (suc place) chamber start loads = omega arith
@@ -147,9 +147,9 @@ module _ (m run hold : ℕ) (free : List ℕ) (order : Order) where
   -- all gains are those by the first answer and those of the later loads
   totals-parted :
       (orders : List Order) (loads : List PlanLoad)
-      → sum (totalOf m run hold free (order ∷ orders)) loads
-      ≡ sum (gainOf m hold free (choiceOf run free order)) loads
-      + sum (totalOf m run hold (freeAfter hold free (choiceOf run free order)) orders) (later loads)
+      → sum (totalOf m lengths free (order ∷ orders)) loads
+      ≡ sum (gainOf m (lengths .hold) free (choiceOf (lengths .run) free order)) loads
+      + sum (totalOf m lengths (freeAfter (lengths .hold) free (choiceOf (lengths .run) free order)) orders) (later loads)
   unfolding sum later
   totals-parted orders [] = refl
   totals-parted orders (load ∷ loads) =
@@ -158,23 +158,23 @@ module _ (m run hold : ℕ) (free : List ℕ) (order : Order) where
       omega arith
 
 -- by no orders they gain nothing
-no-totals : (m run hold : ℕ) (free : List ℕ) (loads : List PlanLoad) → sum (totalOf m run hold free []) loads ≡ 0
+no-totals : (m : ℕ) (lengths : Lengths) (free : List ℕ) (loads : List PlanLoad) → sum (totalOf m lengths free []) loads ≡ 0
 unfolding sum total
-no-totals m run hold free [] = refl
-no-totals m run hold free (load ∷ loads) = rw (no-totals m run hold free loads) refl
+no-totals m lengths free [] = refl
+no-totals m lengths free (load ∷ loads) = rw (no-totals m lengths free loads) refl
 
 -- by all answers the loads of a good plan gain at most the last weight for each yes
 pub upper :
-    (m run hold : ℕ) (free : List ℕ) (orders : List Order) (loads : List PlanLoad) → length free ≡ m → GoodPlan m run hold orders loads
-    → sum (totalOf m run hold free orders) loads ≤ weight m m * keptOf run hold free orders
+    (m : ℕ) (lengths : Lengths) (free : List ℕ) (orders : List Order) (loads : List PlanLoad) → length free ≡ m → GoodPlan m lengths orders loads
+    → sum (totalOf m lengths free orders) loads ≤ weight m m * keptOf lengths free orders
 unfolding keptOf
-upper m run hold free [] loads sized good = omega (arith, no-totals m run hold free loads)
-upper m run hold free (order ∷ orders) loads sized good =
-    let choice : Choice = choiceOf run free order in
-    let parted = totals-parted m run hold free order orders loads in
-    let now = one-answer m run hold free order choice orders loads sized (counted (order .ready) (order .due) run 1 free) good in
+upper m lengths free [] loads sized good = omega (arith, no-totals m lengths free loads)
+upper m lengths free (order ∷ orders) loads sized good =
+    let choice : Choice = choiceOf (lengths .run) free order in
+    let parted = totals-parted m lengths free order orders loads in
+    let now = one-answer m lengths free order choice orders loads sized (counted (order .ready) (order .due) (lengths .run) 1 free) good in
     let next =
-    upper m run hold (freeAfter hold free choice) orders (later loads) (omega (arith, same-length hold free choice))
-    (good-later m run hold order orders loads good)
+    upper m lengths (freeAfter (lengths .hold) free choice) orders (later loads) (omega (arith, same-length (lengths .hold) free choice))
+    (good-later m lengths order orders loads good)
     in
     omega arith

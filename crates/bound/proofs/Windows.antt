@@ -8,7 +8,7 @@ use native.Mathlib.Omega.{arith}
 use borrow.Author.Tests.{leb-true, leb-false, eqb-true, eqb-false, le-leb, lt-leb, ne-eqb}
 use Rattle.ground.proofs.Tests.{by-test}
 use Rattle.book.specs.History.{Order}
-use Rattle.bound.specs.Plans.{PlanLoad, ApartFrom, GoodPlan}
+use Rattle.bound.specs.Plans.{Lengths, PlanLoad, ApartFrom, GoodPlan}
 use Rattle.bound.proofs.Counting.{window, window-most, window-from, window-until}
 
 -- a number for each load, together
@@ -16,10 +16,10 @@ unfoldable pub sum : (PlanLoad → ℕ) → List PlanLoad → ℕ
 sum each [] = 0
 sum each (load ∷ loads) = each load + sum each loads
 
-module _ (start hold : ℕ) where
+module _ (start : ℕ) (lengths : Lengths) where
   -- 1 where a load starts in the window
   abbrev pub inWindow : PlanLoad → ℕ
-  inWindow load = window start hold (load .start)
+  inWindow load = window start (lengths .hold) (load .start)
 
   -- the same of the loads of one chamber
   unfoldable inChamber : ℕ → PlanLoad → ℕ
@@ -55,7 +55,7 @@ module _ (start hold : ℕ) where
 
   -- beside a load that starts in the window no other of its chamber does
   alone :
-      (chamber : ℕ) (load : PlanLoad) (loads : List PlanLoad) → load .chamber ≡ chamber → 1 ≤ inWindow load → ApartFrom hold load loads
+      (chamber : ℕ) (load : PlanLoad) (loads : List PlanLoad) → load .chamber ≡ chamber → 1 ≤ inWindow load → ApartFrom lengths load loads
       → sum (inChamber chamber) loads ≡ 0
   unfolding sum ApartFrom inChamber
   alone chamber load [] here inside apart = refl
@@ -66,39 +66,39 @@ module _ (start hold : ℕ) where
       by-test (leb 1 (inWindow other))
       (λ too.
       let its : other .chamber ≡ chamber = eqb-true (other .chamber) chamber test in
-      let begun = window-from start hold (load .start) inside in
-      let other-begun = window-from start hold (other .start) (leb-true 1 (inWindow other) too) in
-      let unfinished = window-until start hold (load .start) inside in
-      let other-unfinished = window-until start hold (other .start) (leb-true 1 (inWindow other) too) in
+      let begun = window-from start (lengths .hold) (load .start) inside in
+      let other-begun = window-from start (lengths .hold) (other .start) (leb-true 1 (inWindow other) too) in
+      let unfinished = window-until start (lengths .hold) (load .start) inside in
+      let other-unfinished = window-until start (lengths .hold) (other .start) (leb-true 1 (inWindow other) too) in
       absurd (apart .0 .never-overlap (omega arith) (omega arith) (omega arith)))
       (λ never. let none = leb-false 1 (inWindow other) never in rw test (omega arith)))
       (λ test. rw test (omega arith))
 
   -- at most one load of a chamber starts in the window
   one-a-chamber :
-      (chamber chambers run : ℕ) (orders : List Order) (loads : List PlanLoad) → GoodPlan chambers run hold orders loads
+      (chamber chambers : ℕ) (orders : List Order) (loads : List PlanLoad) → GoodPlan chambers lengths orders loads
       → sum (inChamber chamber) loads ≤ 1
   unfolding sum GoodPlan inChamber
-  one-a-chamber chamber chambers run orders [] good = omega arith
-  one-a-chamber chamber chambers run orders (load ∷ loads) good =
-      let rest : sum (inChamber chamber) loads ≤ 1 = one-a-chamber chamber chambers run orders loads (good .2) in
+  one-a-chamber chamber chambers orders [] good = omega arith
+  one-a-chamber chamber chambers orders (load ∷ loads) good =
+      let rest : sum (inChamber chamber) loads ≤ 1 = one-a-chamber chamber chambers orders loads (good .2) in
       by-test (eqb (load .chamber) chamber)
       (λ test.
       by-test (leb 1 (inWindow load))
       (λ inside.
       let none = alone chamber load loads (eqb-true (load .chamber) chamber test) (leb-true 1 (inWindow load) inside) (good .1) in
-      let most = window-most start hold (load .start) in
+      let most = window-most start (lengths .hold) (load .start) in
       rw test (omega arith))
       (λ never. let none = leb-false 1 (inWindow load) never in rw test (omega arith)))
       (λ test. rw test (omega arith))
 
   -- no chamber has number 0
   none-in-none :
-      (chambers run : ℕ) (orders : List Order) (loads : List PlanLoad) → GoodPlan chambers run hold orders loads → sum (inChambers 0) loads ≡ 0
+      (chambers : ℕ) (orders : List Order) (loads : List PlanLoad) → GoodPlan chambers lengths orders loads → sum (inChambers 0) loads ≡ 0
   unfolding sum GoodPlan inChambers
-  none-in-none chambers run orders [] good = refl
-  none-in-none chambers run orders (load ∷ loads) good =
-      rw (lt-leb (load .chamber) 0 (omega (arith, good .0 .numbered)), none-in-none chambers run orders loads (good .2)) refl
+  none-in-none chambers orders [] good = refl
+  none-in-none chambers orders (load ∷ loads) good =
+      rw (lt-leb (load .chamber) 0 (omega (arith, good .0 .numbered)), none-in-none chambers orders loads (good .2)) refl
 
   -- a chamber more
   sum-next : (chamber : ℕ) (loads : List PlanLoad) → sum (inChambers (suc chamber)) loads ≡ sum (inChambers chamber) loads + sum (inChamber (suc chamber)) loads
@@ -108,28 +108,28 @@ module _ (start hold : ℕ) where
 
   -- at most as many as there are chambers up to one
   some-chambers :
-      (chamber chambers run : ℕ) (orders : List Order) (loads : List PlanLoad) → GoodPlan chambers run hold orders loads
+      (chamber chambers : ℕ) (orders : List Order) (loads : List PlanLoad) → GoodPlan chambers lengths orders loads
       → sum (inChambers chamber) loads ≤ chamber
-  some-chambers zero chambers run orders loads good = omega (arith, none-in-none chambers run orders loads good)
-  some-chambers (suc chamber) chambers run orders loads good =
+  some-chambers zero chambers orders loads good = omega (arith, none-in-none chambers orders loads good)
+  some-chambers (suc chamber) chambers orders loads good =
       omega (
         arith,
-        some-chambers chamber chambers run orders loads good,
+        some-chambers chamber chambers orders loads good,
         sum-next chamber loads,
-        one-a-chamber (suc chamber) chambers run orders loads good,
+        one-a-chamber (suc chamber) chambers orders loads good,
       )
 
   -- every load is in one of the chambers
   all-chambers :
-      (chambers run : ℕ) (orders : List Order) (loads : List PlanLoad) → GoodPlan chambers run hold orders loads
+      (chambers : ℕ) (orders : List Order) (loads : List PlanLoad) → GoodPlan chambers lengths orders loads
       → sum (inChambers chambers) loads ≡ sum inWindow loads
   unfolding sum GoodPlan inChambers
-  all-chambers chambers run orders [] good = refl
-  all-chambers chambers run orders (load ∷ loads) good =
-      rw (le-leb (load .chamber) chambers (good .0 .numbered .1), all-chambers chambers run orders loads (good .2)) refl
+  all-chambers chambers orders [] good = refl
+  all-chambers chambers orders (load ∷ loads) good =
+      rw (le-leb (load .chamber) chambers (good .0 .numbered .1), all-chambers chambers orders loads (good .2)) refl
 
   -- at most as many loads as there are chambers start in the window
   pub few-in-window :
-      (chambers run : ℕ) (orders : List Order) (loads : List PlanLoad) → GoodPlan chambers run hold orders loads → sum inWindow loads ≤ chambers
-  few-in-window chambers run orders loads good =
-      omega (arith, all-chambers chambers run orders loads good, some-chambers chambers chambers run orders loads good)
+      (chambers : ℕ) (orders : List Order) (loads : List PlanLoad) → GoodPlan chambers lengths orders loads → sum inWindow loads ≤ chambers
+  few-in-window chambers orders loads good =
+      omega (arith, all-chambers chambers orders loads good, some-chambers chambers chambers orders loads good)

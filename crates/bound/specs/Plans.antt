@@ -22,11 +22,16 @@ abbrev pub keptBy : Choice → ℕ
 keptBy Nothing = 0
 keptBy (Chamber chamber start) = 1
 
+-- how long a run lasts, and how long a load holds its chamber
+pub record Lengths : Type 0 where
+  pub run : ℕ
+  pub hold : ℕ
+
 -- how many of several orders are kept, one after another from given free hours on
-unfoldable pub keptOf : ℕ → ℕ → List ℕ → List Order → ℕ
-keptOf run hold free [] = 0
-keptOf run hold free (order ∷ orders) =
-    keptBy (choiceOf run free order) + keptOf run hold (freeAfter hold free (choiceOf run free order)) orders
+unfoldable pub keptOf : Lengths → List ℕ → List Order → ℕ
+keptOf lengths free [] = 0
+keptOf lengths free (order ∷ orders) =
+    keptBy (choiceOf (lengths .run) free order) + keptOf lengths (freeAfter (lengths .hold) free (choiceOf (lengths .run) free order)) orders
 
 -- ready hours never fall, and none is below the clock
 unfoldable pub InTurn : ℕ → List Order → Type 0
@@ -51,17 +56,17 @@ pub record GoodLoad (chambers run : ℕ) (orders : List Order) (load : PlanLoad)
   pub numbered : (1 ≤ load .chamber) × (load .chamber ≤ chambers)
 
 -- two loads are of different orders, and in one chamber they do not overlap: it is never so that each starts before the other ends
-pub record Apart (hold : ℕ) (one other : PlanLoad) : Type 0 where
+pub record Apart (lengths : Lengths) (one other : PlanLoad) : Type 0 where
   pub orders-differ : one .order ≡ other .order → ⊥
-  pub never-overlap : one .chamber ≡ other .chamber → one .start < other .start + hold → other .start < one .start + hold → ⊥
+  pub never-overlap : one .chamber ≡ other .chamber → one .start < other .start + lengths .hold → other .start < one .start + lengths .hold → ⊥
 
 -- a load is apart from each of several
-unfoldable pub ApartFrom : ℕ → PlanLoad → List PlanLoad → Type 0
-ApartFrom hold load [] = Unit {0}
-ApartFrom hold load (other ∷ loads) = Apart hold load other × ApartFrom hold load loads
+unfoldable pub ApartFrom : Lengths → PlanLoad → List PlanLoad → Type 0
+ApartFrom lengths load [] = Unit {0}
+ApartFrom lengths load (other ∷ loads) = Apart lengths load other × ApartFrom lengths load loads
 
 -- a good plan: each load is good, and apart from every other
-unfoldable pub GoodPlan : ℕ → ℕ → ℕ → List Order → List PlanLoad → Type 0
-GoodPlan chambers run hold orders [] = Unit {0}
-GoodPlan chambers run hold orders (load ∷ loads) =
-    GoodLoad chambers run orders load × ApartFrom hold load loads × GoodPlan chambers run hold orders loads
+unfoldable pub GoodPlan : ℕ → Lengths → List Order → List PlanLoad → Type 0
+GoodPlan chambers lengths orders [] = Unit {0}
+GoodPlan chambers lengths orders (load ∷ loads) =
+    GoodLoad chambers (lengths .run) orders load × ApartFrom lengths load loads × GoodPlan chambers lengths orders loads

@@ -164,8 +164,9 @@ pub fn read_heading(line: &[u8]) -> HeadingRead
     if is_misshapen(line) {
         return HeadingRead::Refused(1);
     }
-    let chambers = plain_at(line, 1, 1, MOST_CHAMBERS);
-    let run = hour_at(line, 2, 1, LONGEST_RUN);
+    let rest = fields::after_field(line);
+    let chambers = plain_at(rest, 0, 1, MOST_CHAMBERS);
+    let run = hour_at(rest, 1, 1, LONGEST_RUN);
     match three_of(steam_at(line), chambers, run) {
         ThreeRead::Numbers(read) => HeadingRead::Read(Heading {
             chambers: read.second,
@@ -182,8 +183,9 @@ pub fn read_order(line: &[u8]) -> OrderRead
     if is_misshapen(line) {
         return OrderRead::Refused(1);
     }
-    let ready = hour_at(line, 1, 0, LAST_HOUR);
-    let due = hour_at(line, 2, 0, LAST_HOUR);
+    let rest = fields::after_field(line);
+    let ready = hour_at(rest, 0, 0, LAST_HOUR);
+    let due = hour_at(rest, 1, 0, LAST_HOUR);
     match three_of(plain_at(line, 0, 1, LAST_GROWER), ready, due) {
         ThreeRead::Numbers(read) => OrderRead::Read(Order {
             grower: read.first,
@@ -201,8 +203,9 @@ pub fn read_load(line: &[u8], count: u32) -> LoadRead
     if is_misshapen(line) {
         return LoadRead::Refused(1);
     }
-    let chamber = plain_at(line, 1, 1, count);
-    let start = hour_at(line, 2, 0, LAST_HOUR);
+    let rest = fields::after_field(line);
+    let chamber = plain_at(rest, 0, 1, count);
+    let start = hour_at(rest, 1, 0, LAST_HOUR);
     match three_of(plain_at(line, 0, 0, LAST_PLAIN), chamber, start) {
         ThreeRead::Numbers(read) => LoadRead::Read(Load {
             order: read.first,

@@ -23,7 +23,7 @@ use hours::write_hour;
 use hours::writing_refusal;
 
 // The first line that an order can stand on: line 1 is no order.
-const FIRST_ORDER_LINE: u32 = 2;
+pub const FIRST_ORDER_LINE: u32 = 2;
 
 // The last one, in a list of as many orders as a book takes.
 const LAST_ORDER_LINE: u32 = MOST_ORDERS + 1;

@@ -14,9 +14,8 @@ use Rattle.book.specs.declared.Answer.the-variants.{Refused}
 use Rattle.book.specs.declared.Choice.{Choice}
 use Rattle.book.specs.declared.Choice.the-variants.{Nothing, Chamber}
 use Rattle.book.proofs.Promises.{refused-order-stays}
-use Rattle.orders.specs.Answers.{orderLines, answersFrom, bookAfter, decision, bookPast}
+use Rattle.orders.specs.Answers.{orderLines, answersFrom, bookAfter, decision, bookPast, refusalsIn, refusals, yesesIn, yeses, CleanList}
 use Rattle.orders.specs.Replies.{sumLine, numbered, repliesFrom}
-use Rattle.orders.specs.Meaning.{refusalsIn, refusals, yesesIn, yeses, CleanList}
 use Rattle.orders.proofs.Beginning.{opened-fresh-book}
 
 -- one order counts as taken unless it is refused, and as kept with a yes

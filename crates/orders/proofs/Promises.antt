@@ -17,9 +17,9 @@ use Rattle.book.specs.Taking.{told, answerOf}
 use Rattle.book.specs.declared.Book.{Book}
 use Rattle.book.specs.declared.Answer.the-variants.{Refused}
 use Rattle.book.proofs.Promises.{answer-told}
-use Rattle.orders.specs.Answers.{opening, orderLines, answersFrom, decision, bookPast, begunBy, progressPast, Stepped}
+use Rattle.orders.specs.Answers.{opening, orderLines, answersFrom, decision, bookPast, yeses, CleanList, begunBy, progressPast, Stepped}
 use Rattle.orders.specs.Replies.{sumLine, numbered, repliesBy, replyOf}
-use Rattle.orders.specs.Meaning.{GoneThrough, yeses, CleanList}
+use Rattle.orders.specs.Meaning.{GoneThrough}
 use Rattle.orders.specs.declared.answers.Progress.{Progress}
 use Rattle.orders.proofs.Beginning as beginning
 use Rattle.orders.proofs.Walking as walking

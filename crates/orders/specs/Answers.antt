@@ -1,20 +1,22 @@
 -- What a list is answered, line by line: "The desk program reads an order list … a line for each line after the first … Refused lines change nothing and it goes on." Assumes nothing.
-use Prim.Native.Nat.{ℕ, suc, min}
+use Prim.Native.Nat.{ℕ, suc, _+_, min}
 use mathlib.Core.Path.{_≡_}
 use mathlib.Core.Bool.{cond}
-use mathlib.Core.List.{List, [], _∷_}
+use mathlib.Core.List.{List, [], _∷_, _++_}
 use lib.ListN.{length, drop}
 use lib.Dec.{leb, eqb}
 use Rattle.ground.specs.Refusal.{Read, wrong, right, check, _>>=_, _>>_}
 use Rattle.ground.specs.Limits.{longestText}
 use Rattle.lines.specs.Lines.{linesOf, lineAt, pastLine}
 use Rattle.lines.specs.Reading.{headingOf, orderOf}
+use Rattle.lines.specs.Writing.{planText}
 use Rattle.lines.specs.declared.reading.Order.{Order}
 use Rattle.book.specs.Soundness.{freshBook}
 use Rattle.book.specs.Taking.{decided, nextBook, told, answerOf}
 use Rattle.book.specs.declared.Book.{Book}
 use Rattle.book.specs.declared.Choice.{Choice}
 use Rattle.book.specs.declared.Answer.{Answer}
+use Rattle.book.specs.declared.Answer.the-variants.{Yes, No, Refused}
 use Rattle.orders.specs.declared.answers.Progress.{Progress}
 use Rattle.orders.specs.declared.answers.Begun.{Begun}
 use Rattle.orders.specs.declared.answers.Step.{Step}
@@ -55,6 +57,42 @@ unfoldable pub answersOf : List ℕ → Read (List Answer)
 answersOf text = do
   book ← opening text
   right (answersFrom book (orderLines text))
+
+-- how many of some answers are refusals
+abbrev pub refusalsIn : Answer → ℕ
+refusalsIn (Yes chamber start) = 0
+refusalsIn No = 0
+refusalsIn (Refused number) = 1
+
+unfoldable pub refusals : List Answer → ℕ
+refusals [] = 0
+refusals (answer ∷ answers) = refusalsIn answer + refusals answers
+
+-- and how many are yeses
+abbrev pub yesesIn : Answer → ℕ
+yesesIn (Yes chamber start) = 1
+yesesIn No = 0
+yesesIn (Refused number) = 0
+
+unfoldable pub yeses : List Answer → ℕ
+yeses [] = 0
+yeses (answer ∷ answers) = yesesIn answer + yeses answers
+
+-- a list with no refused line, and the book that it begins with
+pub record CleanList (text : List ℕ) (book : Book) : Type 0 where
+  pub begun : opening text ≡ right book
+  pub unrefused : refusals (answersFrom book (orderLines text)) ≡ 0
+
+-- a yes as a plan line, with the number of its order's line; a no and a refusal have none
+abbrev pub planLineFor : ℕ → Answer → List ℕ
+planLineFor line (Yes chamber start) = planText line chamber start
+planLineFor line No = []
+planLineFor line (Refused number) = []
+
+-- the yeses of answers as a plan, their lines counted from a number on
+unfoldable pub yesPlan : ℕ → List Answer → List ℕ
+yesPlan line [] = []
+yesPlan line (answer ∷ answers) = planLineFor line answer ++ yesPlan (suc line) answers
 
 -- the last number that a line can be counted by
 abbrev pub lastLine : ℕ

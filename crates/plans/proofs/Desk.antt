@@ -17,9 +17,8 @@ use Rattle.book.specs.Taking.{decided, nextBook, answerOf}
 use Rattle.book.specs.declared.Book.{Book}
 use Rattle.book.specs.declared.Choice.{Choice}
 use Rattle.book.specs.declared.Choice.the-variants.{Nothing, Chamber}
-use Rattle.orders.specs.Answers.{opening, orderLines, answersFrom, decision, bookPast}
-use Rattle.orders.specs.Meaning.{refusalsIn, refusals}
-use Rattle.orders.specs.Meaning as desk
+use Rattle.orders.specs.Answers.{opening, orderLines, answersFrom, decision, bookPast, refusalsIn, refusals}
+use Rattle.orders.specs.Answers as desk
 use Rattle.orders.proofs.Beginning.{heading-right, heading-wrong, opened-within}
 use Rattle.plans.specs.Judging.{ListKnown, noteOrder, noOrders}
 use Rattle.plans.specs.Meaning.{CleanList}

@@ -1,14 +1,14 @@
 -- Going through a text line by line: a line that is noted leaves the lines past it, and one that is not is the fault. Assumes nothing.
-use Prim.Native.Nat.{ℕ, suc, _+_, _≤_, _<_}
+use Prim.Native.Nat.{ℕ, suc, _+_, _-_, _≤_, _<_}
 use mathlib.Core.Path.{_≡_, refl}
 use mathlib.Core.Bool.{Bool}
 use mathlib.Core.List.{List, [], _∷_}
-use lib.ListN.{length, drop, length-take}
+use lib.ListN.{length, take, drop, length-take, length-drop}
 use native.Mathlib.Numerals.{add-one}
 use native.Mathlib.Omega.{arith}
 use Rattle.ground.specs.Refusal.{Read, wrong, right}
 use Rattle.lines.specs.Lines.{linesOf, lineLength, lineAt, pastLine}
-use Rattle.lines.proofs.Lines.{line-within}
+use Rattle.lines.proofs.Lines.{line-within, line-is}
 use Rattle.lines.proofs.Promises.{walk-on, walk-some, walk-done}
 use Rattle.plans.specs.Judging.{through}
 
@@ -20,6 +20,15 @@ past-is text at = omega (arith, length-take (lineLength (drop at text)) (drop at
 -- while a line is left the place moves on
 pub moves-on : (text : List ℕ) (at : ℕ) → at < length text → at < pastLine text at
 moves-on text at inside = omega (arith, past-is text at, walk-some text at inside)
+
+-- and it stays in the text
+pub ends-inside : (text : List ℕ) (at : ℕ) → at < length text → pastLine text at ≤ length text
+unfolding pastLine
+ends-inside text at inside = omega (arith, line-within (drop at text), length-drop at text)
+
+-- the part of a text up to the place past a line is that line
+pub part-is-line : (text : List ℕ) (at end : ℕ) → end ≡ pastLine text at → take (end - at) (drop at text) ≡ lineAt text at
+part-is-line text at end past = rw past (line-is text at)
 
 module _ {Known : Type 0} (note : Known → List ℕ → Read Known) (plan : Bool) (line at : ℕ) (known : Known) where
   -- with no line left, what is known is the answer

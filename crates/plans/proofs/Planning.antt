@@ -27,7 +27,7 @@ use Rattle.plans.specs.Steps.{loadMarked, loadRefusal, Loaded}
 use Rattle.plans.specs.declared.LoadNoted.{LoadNoted}
 use Rattle.plans.proofs.Loading.{taken-there}
 use Rattle.plans.proofs.Pigeonhole.{OrderLines, few-loads, no-order-lines, order-lines-more}
-use Rattle.plans.proofs.Going.{through-done, through-on, through-stops}
+use Rattle.plans.proofs.Going.{part-is-line, through-done, through-on, through-stops}
 
 -- a test whose contrary holds fails
 not-not : (test : Bool) → not test ≡ true → test ≡ false
@@ -112,7 +112,7 @@ module _ (hold chamber start : ℕ) (chambers starts : List ℕ) (earlier : ℕ)
 
 -- what is known of a plan: the order lines seen, and the loads' chambers and starts at the front of two buffers
 abbrev pub known : List ℕ → List ℕ → List ℕ → ℕ → PlanKnown
-known orders rooms starts count = record { orders = orders; chambers = take count rooms; starts = take count starts }
+known orders in-chambers starts count = record { orders = orders; chambers = take count in-chambers; starts = take count starts }
 
 -- each order has a plan line kept exactly where it stands among those seen
 abbrev pub Marks : ℕ → List ℕ → List ℕ → Type 0
@@ -229,26 +229,32 @@ marks-none : (count : ℕ) (lines : List ℕ) → ((place : ℕ) → getD lines 
 unfolding standsIn
 marks-none count lines zeros order inside = rw (zeros (order - firstOrderLine))
 
+-- what a line of the plan comes to, noted as a part of the plan
+pub loaded-line :
+    {count run : ℕ} {readies dues lines : List ℕ} {noted : LoadNoted} (plan : List ℕ) (at end : ℕ) → end ≡ pastLine plan at
+    → Loaded count run readies dues lines (take (end - at) (drop at plan)) noted → Loaded count run readies dues lines (lineAt plan at) noted
+loaded-line plan at end past loaded = rw (part-is-line plan at end past) at loaded
+
 -- how far a plan has been gone through: what is left gives what the whole gives, and the orders seen are different ones of the list
-pub record Reached (plan : List ℕ) (heading : Heading) (readies dues lines rooms starts : List ℕ) (count line at : ℕ) : Type 0 where
+pub record Reached (plan : List ℕ) (heading : Heading) (readies dues lines in-chambers starts : List ℕ) (count line at : ℕ) : Type 0 where
   pub orders : List ℕ
   pub ordered : length orders ≡ count
   pub marked : Marks (length readies) lines orders
   pub whole :
-      through (noteLoad heading readies dues) true line at (known orders rooms starts count) (linesOf (drop at plan))
+      through (noteLoad heading readies dues) true line at (known orders in-chambers starts count) (linesOf (drop at plan))
       ≡ planJudged plan heading readies dues
-  pub sized : (length lines ≡ mostOrders) × (length rooms ≡ mostOrders) × (length starts ≡ mostOrders)
+  pub sized : (length lines ≡ mostOrders) × (length in-chambers ≡ mostOrders) × (length starts ≡ mostOrders)
   pub named : OrderLines (length readies) orders
   pub few : count ≤ length readies
   pub numbered : (1 ≤ line) × (line + length (linesOf (drop at plan)) ≤ suc longestText)
 
 -- at the top nothing is seen
 pub reached-top :
-    (plan : List ℕ) (heading : Heading) (readies dues lines rooms starts : List ℕ) → length plan ≤ longestText
-    → (length lines ≡ mostOrders) × (length rooms ≡ mostOrders) × (length starts ≡ mostOrders) → ((place : ℕ) → getD lines place 0 ≡ 0)
-    → Reached plan heading readies dues lines rooms starts 0 1 0
+    (plan : List ℕ) (heading : Heading) (readies dues lines in-chambers starts : List ℕ) → length plan ≤ longestText
+    → (length lines ≡ mostOrders) × (length in-chambers ≡ mostOrders) × (length starts ≡ mostOrders) → ((place : ℕ) → getD lines place 0 ≡ 0)
+    → Reached plan heading readies dues lines in-chambers starts 0 1 0
 unfolding planJudged
-reached-top plan heading readies dues lines rooms starts short sized zeros =
+reached-top plan heading readies dues lines in-chambers starts short sized zeros =
     record {
       orders = [];
       ordered = refl;
@@ -260,11 +266,11 @@ reached-top plan heading readies dues lines rooms starts short sized zeros =
       numbered = (omega arith, omega (arith, lines-within plan));
     }
 
-module _ {plan : List ℕ} {heading : Heading} {readies dues lines rooms starts : List ℕ} {count line at : ℕ}
-    (reached : Reached plan heading readies dues lines rooms starts count line at) where
+module _ {plan : List ℕ} {heading : Heading} {readies dues lines in-chambers starts : List ℕ} {count line at : ℕ}
+    (reached : Reached plan heading readies dues lines in-chambers starts count line at) where
   -- what is known there
   abbrev pub seen-at : PlanKnown
-  seen-at = known (reached .orders) rooms starts count
+  seen-at = known (reached .orders) in-chambers starts count
 
   -- at the end the loads are counted
   pub reached-end : length plan ≤ at → loadsCounted plan heading readies dues ≡ right count
@@ -306,12 +312,12 @@ module _ {plan : List ℕ} {heading : Heading} {readies dues lines rooms starts 
     -- a line that can be noted is passed, with its load at the end of those seen
     pub reached-next :
         at < length plan
-        → overlapsAny (heading .run) (noted .load .chamber) (noted .load .start) (take count rooms) (take count starts) ≡ false
-        → Reached plan heading readies dues (set lines (noted .load .order - firstOrderLine) line) (set rooms count (noted .load .chamber)) (set starts count (noted .load .start))
+        → overlapsAny (heading .run) (noted .load .chamber) (noted .load .start) (take count in-chambers) (take count starts) ≡ false
+        → Reached plan heading readies dues (set lines (noted .load .order - firstOrderLine) line) (set in-chambers count (noted .load .chamber)) (set starts count (noted .load .start))
         (count + 1) (line + 1) (pastLine plan at)
     reached-next inside apart =
         let room : suc count ≤ length readies = reached-room in
-        let rooms-more = one-more rooms count (noted .load .chamber) (omega (arith, room, reached .sized .1)) in
+        let chambers-more = one-more in-chambers count (noted .load .chamber) (omega (arith, room, reached .sized .1)) in
         let starts-more = one-more starts count (noted .load .start) (omega (arith, room, reached .sized .2)) in
         let left : length (linesOf (drop at plan)) ≡ suc (length (linesOf (drop (pastLine plan at) plan))) = ap length (walk-on plan at inside) in
         record {
@@ -321,14 +327,14 @@ module _ {plan : List ℕ} {heading : Heading} {readies dues lines rooms starts 
               marks-more (length readies) lines (reached .orders) (noted .load .order) line (passes .named) (reached .numbered .0)
               (omega (arith, order-room, reached .sized .0)) (reached .marked);
           whole =
-              rw (rooms-more, starts-more)
+              rw (chambers-more, starts-more)
               (sym
               (through-on (noteLoad heading readies dues) true line at seen-at plan inside _
               (line-noted heading readies dues lines seen-at (reached .marked) (lineAt plan at) noted loaded none apart))
               ∙ reached .whole);
           sized = (
             length-set lines (noted .load .order - firstOrderLine) line ∙ reached .sized .0,
-            length-set rooms count (noted .load .chamber) ∙ reached .sized .1,
+            length-set in-chambers count (noted .load .chamber) ∙ reached .sized .1,
             length-set starts count (noted .load .start) ∙ reached .sized .2,
           );
           named = more;

@@ -16,7 +16,7 @@ use Rattle.lines.specs.declared.reading.Order.{Order}
 use Rattle.lines.specs.declared.reading.Load.{Load}
 use Rattle.book.specs.Soundness.{freshBook}
 use Rattle.book.specs.declared.Book.{Book}
-use Rattle.orders.specs.Meaning as desk
+use Rattle.orders.specs.Answers as desk
 use Rattle.plans.specs.Judging.{judged, asJudged, shown}
 use Rattle.plans.specs.Meaning.{CleanList, Obeys, OrderWrong, LoadWrong, FirstFault}
 use Rattle.plans.specs.declared.Fault.{Fault}

@@ -6,7 +6,7 @@ ghost use mathlib.Core.Path.{_≡_};
 ghost use mathlib.Core.Bool.{true, false, cond};
 ghost use mathlib.Core.List.{[]};
 ghost use Prim.Native.Nat.{_-_, _≤_, suc};
-ghost use lib.ListN.{length, getD, take, drop};
+ghost use lib.ListN.{length, getD, drop};
 ghost use Rattle.ground.specs.Refusal.{wrong, right, numberOf};
 ghost use Rattle.ground.specs.Range.{within};
 ghost use Rattle.ground.specs.Limits.{mostOrders, longestText};
@@ -31,12 +31,10 @@ use lines::reading::read_load;
 use lines::reading::read_order;
 use lines::walk::line_at;
 use lines::walk::line_end;
+use lines::writing::FIRST_ORDER_LINE;
 
 // How many orders a list can have, and so how many loads a plan.
 const ORDERS: usize = MOST_ORDERS as usize;
-
-// The first line that an order can stand on.
-const FIRST_ORDER_LINE: u32 = 2;
 
 // A fault: its number, whether it stands in the plan or else in the list, its line number, and the place of its line.
 pub struct Fault {
@@ -149,7 +147,7 @@ fn read_orders(
     let mut book = fresh;
     while at < list.len() {
         let end = line_end(list, at);
-        let noted = note_order(book, line_at(list, at));
+        let noted = note_order(book, &list[at..end]);
         let refusal = noted.refusal;
         if refusal != 0 {
             let fault = Fault {
@@ -297,16 +295,17 @@ fn judge_plan(plan: &[u8], chambers: u32, run: u32, readies: &[u32], dues: &[u32
 {
     let hold = run;
     let mut lines = [0u32; ORDERS];
-    let mut rooms = [0u32; ORDERS];
+    let mut in_chambers = [0u32; ORDERS];
     let mut starts = [0u32; ORDERS];
     let mut count: usize = 0;
     let mut line: u32 = 1;
     let mut at: usize = 0;
     'plan: while at < plan.len() {
-        let noted = note_load(line_at(plan, at), chambers, run, readies, dues, &lines);
+        let end = line_end(plan, at);
+        let noted = note_load(&plan[at..end], chambers, run, readies, dues, &lines);
         let number = noted.refusal;
         if number != 0 {
-            return plan_fault(number, line, at, line_end(plan, at));
+            return plan_fault(number, line, at, end);
         }
         let load = noted.load;
         let mut earlier: usize = 0;
@@ -315,7 +314,7 @@ fn judge_plan(plan: &[u8], chambers: u32, run: u32, readies: &[u32], dues: &[u32
                 hold,
                 load.chamber,
                 load.start,
-                rooms[earlier],
+                in_chambers[earlier],
                 starts[earlier],
             ) {
                 break 'plan;
@@ -325,11 +324,11 @@ fn judge_plan(plan: &[u8], chambers: u32, run: u32, readies: &[u32], dues: &[u32
         let order = place_of(load.order);
         lines[order] = line;
         let place = count;
-        rooms[place] = load.chamber;
+        in_chambers[place] = load.chamber;
         starts[place] = load.start;
         count += 1;
         line += 1;
-        at = line_end(plan, at);
+        at = end;
     }
     if plan.len() <= at {
         let loads = count as u32;

@@ -9,7 +9,7 @@ use Rattle.ground.specs.Refusal.{wrong}
 use Rattle.ground.specs.Limits.{mostOrders}
 use Rattle.lines.specs.Lines.{lineAt}
 use Rattle.plans.specs.Steps.{Noted}
-use Rattle.plans.proofs.Going.{moves-on}
+use Rattle.plans.proofs.Going.{moves-on, ends-inside, part-is-line}
 use Rattle.plans.proofs.Orders.{Kept, ordersLeft, ordersOf, standing, note-kept, order-stands, order-stops, orders-stand}
 use Rattle.plans.proofs.read_orders.Statement.{statement}
 use Rattle.plans.proofs.read_orders.Tie as tie
@@ -31,7 +31,11 @@ noted :
     (k : tie.After-note-order Inv-loop μ-loop)
     → let loop = k .before .before .before .before in
     Noted (loop .loop .book) (lineAt (loop .before .before .before .before .args .list .now) (loop .loop .at)) (k .note-order .result)
-noted k = rw (← k .before .line-at .ensures) (k .note-order .ensures)
+noted k =
+    let before = k .before .before in
+    let loop = before .before .before in
+    rw (← part-is-line (loop .before .before .before .before .args .list .now) (loop .loop .at) (before .line-end .result) (before .line-end .ensures))
+    (k .note-order .ensures)
 
 -- where it was not refused it is kept
 kept :
@@ -89,8 +93,20 @@ loop-holds c = search needs
 line-end-requires : tie.Need-line-end-requires Inv-loop μ-loop
 line-end-requires c κs = search needs
 
-line-at-requires : tie.Need-line-at-requires Inv-loop μ-loop
-line-at-requires c κs = search needs
+-- it is a part of the list
+inside :
+    (k : tie.After-line-end Inv-loop μ-loop)
+    → (k .before .before .loop .at < k .line-end .result) × (k .line-end .result ≤ length (k .before .before .before .before .before .before .args .list .now))
+inside k = (further k, rw (k .line-end .ensures) (ends-inside _ _ (k .before .loop-test .taken)))
+
+sub-note-order : tie.Need-sub-note-order Inv-loop μ-loop
+sub-note-order c = omega (arith, inside c .0)
+
+part-note-order-start : tie.Need-part-note-order-start Inv-loop μ-loop
+part-note-order-start c = omega (arith, inside c .0)
+
+part-note-order-end : tie.Need-part-note-order-end Inv-loop μ-loop
+part-note-order-end c = omega (arith, inside c .1)
 
 note-order-requires : tie.Need-note-order-requires Inv-loop μ-loop
 note-order-requires c κs = search needs
@@ -172,7 +188,9 @@ read-orders-spec =
     μ-loop
     loop-holds
     line-end-requires
-    line-at-requires
+    sub-note-order
+    part-note-order-start
+    part-note-order-end
     note-order-requires
     same-length
     same-length-2

@@ -8,6 +8,7 @@ use Rattle.lines.specs.Fields.{field}
 use Rattle.lines.specs.Reading.{headingOf, plainWithin, hourWithin, steamAt}
 use Rattle.lines.specs.declared.reading.Heading.{Heading}
 use Rattle.lines.specs.Steps.{asThree}
+use Rattle.lines.proofs.Splitting.{field-later}
 use Rattle.lines.proofs.LineReading.{shape-failed, shape-tested, made-of-line}
 use Rattle.lines.proofs.reading.read_heading.Statement.{statement}
 use Rattle.lines.proofs.reading.read_heading.Tie as tie
@@ -22,6 +23,9 @@ is-misshapen-requires c κs = search needs
 returns : tie.Need-returns
 unfolding headingOf
 returns c = rw (shape-failed _ (sym (c .before .is-misshapen .ensures) ∙ c .if1 .taken))
+
+after-field-requires : tie.Need-after-field-requires
+after-field-requires c κs = search needs
 
 plain-at-requires : tie.Need-plain-at-requires
 plain-at-requires c κs = search needs
@@ -42,13 +46,13 @@ enum-known-number : tie.Need-enum-known-number
 enum-known-number c = search needs
 
 -- past the shape, the line is made of what its fields read as
-read-as : (c : tie.After-three-of) → headingOf (c .before .before .before .before .before .before .before .args .line .now) ≡ (asThree (c .three-of .result) >>= λ numbers. right (made (numbers .first) (numbers .second) (numbers .third)))
+read-as : (c : tie.After-three-of) → headingOf (c .before .before .before .before .before .before .before .before .args .line .now) ≡ (asThree (c .three-of .result) >>= λ numbers. right (made (numbers .first) (numbers .second) (numbers .third)))
 unfolding headingOf made
 read-as c =
-    let line = c .before .before .before .before .before .before .before .args .line .now in
+    let line = c .before .before .before .before .before .before .before .before .args .line .now in
     made-of-line line (steamAt (field 0 line)) (plainWithin 1 mostChambers (field 1 line)) (hourWithin 1 longestRun (field 2 line)) made (asThree (c .three-of .result))
-    (shape-tested line (sym (c .before .before .before .before .before .is-misshapen .ensures) ∙ c .before .before .before .before .if1 .left))
-    (c .three-of .ensures ∙ rw (c .before .steam-at .ensures, c .before .before .before .plain-at .ensures, c .before .before .hour-at .ensures))
+    (shape-tested line (sym (c .before .before .before .before .before .before .is-misshapen .ensures) ∙ c .before .before .before .before .before .if1 .left))
+    (c .three-of .ensures ∙ rw (c .before .steam-at .ensures, c .before .before .before .plain-at .ensures, c .before .before .hour-at .ensures, c .before .before .before .before .after-field .ensures, field-later line 0, field-later line 1))
 
 returns-2 : tie.Need-returns-2
 unfolding made
@@ -64,6 +68,7 @@ read-heading-spec =
     (tie.spec
     is-misshapen-requires
     returns
+    after-field-requires
     plain-at-requires
     hour-at-requires
     steam-at-requires

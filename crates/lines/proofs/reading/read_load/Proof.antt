@@ -9,6 +9,7 @@ use Rattle.lines.specs.Fields.{field}
 use Rattle.lines.specs.Reading.{loadOf, plainWithin}
 use Rattle.lines.specs.declared.reading.Load.{Load}
 use Rattle.lines.specs.Steps.{asThree}
+use Rattle.lines.proofs.Splitting.{field-later}
 use Rattle.lines.proofs.LineReading.{shape-failed, shape-tested, made-of-line, any-hour, any-plain}
 use Rattle.lines.proofs.reading.read_load.Statement.{statement}
 use Rattle.lines.proofs.reading.read_load.Tie as tie
@@ -23,6 +24,9 @@ is-misshapen-requires c κs = search needs
 returns : tie.Need-returns
 unfolding loadOf
 returns c = rw (shape-failed _ (sym (c .before .is-misshapen .ensures) ∙ c .if1 .taken))
+
+after-field-requires : tie.Need-after-field-requires
+after-field-requires c κs = search needs
 
 plain-at-requires : tie.Need-plain-at-requires
 plain-at-requires c κs = search needs
@@ -43,13 +47,13 @@ enum-known-number : tie.Need-enum-known-number
 enum-known-number c = search needs
 
 -- past the shape, the line is made of what its fields read as
-read-as : (c : tie.After-three-of) → loadOf (c .before .before .before .before .before .before .before .args .count) (c .before .before .before .before .before .before .before .args .line .now) ≡ (asThree (c .three-of .result) >>= λ numbers. right (made (numbers .first) (numbers .second) (numbers .third)))
+read-as : (c : tie.After-three-of) → loadOf (c .before .before .before .before .before .before .before .before .args .count) (c .before .before .before .before .before .before .before .before .args .line .now) ≡ (asThree (c .three-of .result) >>= λ numbers. right (made (numbers .first) (numbers .second) (numbers .third)))
 unfolding loadOf made
 read-as c =
-    let line = c .before .before .before .before .before .before .before .args .line .now in
-    made-of-line line (plainOf (field 0 line)) (plainWithin 1 (c .before .before .before .before .before .before .before .args .count) (field 1 line)) (hourOf comma (field 2 line)) made (asThree (c .three-of .result))
-    (shape-tested line (sym (c .before .before .before .before .before .is-misshapen .ensures) ∙ c .before .before .before .before .if1 .left))
-    (c .three-of .ensures ∙ rw (c .before .plain-at2 .ensures, c .before .before .before .plain-at .ensures, c .before .before .hour-at .ensures, any-plain, any-hour))
+    let line = c .before .before .before .before .before .before .before .before .args .line .now in
+    made-of-line line (plainOf (field 0 line)) (plainWithin 1 (c .before .before .before .before .before .before .before .before .args .count) (field 1 line)) (hourOf comma (field 2 line)) made (asThree (c .three-of .result))
+    (shape-tested line (sym (c .before .before .before .before .before .before .is-misshapen .ensures) ∙ c .before .before .before .before .before .if1 .left))
+    (c .three-of .ensures ∙ rw (c .before .plain-at2 .ensures, c .before .before .before .plain-at .ensures, c .before .before .hour-at .ensures, c .before .before .before .before .after-field .ensures, field-later line 0, field-later line 1, any-plain, any-hour))
 
 returns-2 : tie.Need-returns-2
 unfolding made
@@ -65,6 +69,7 @@ read-load-spec =
     (tie.spec
     is-misshapen-requires
     returns
+    after-field-requires
     plain-at-requires
     hour-at-requires
     plain-at-requires-2

@@ -8,55 +8,39 @@ use Rattle.orders.proofs.Beginning.{too-long, heading-right, heading-wr
 use borrow.Author.Needs.{needs}
 use Rattle.orders.proofs.answers.begin.Statement.{statement}
 use Rattle.orders.proofs.answers.begin.Tie as tie
-use Rattle.orders.proofs.answers.begin.Reads as reads
-use Rattle.orders.proofs.answers.begin.Lts as lts
-use Rattle.lines.proofs.reading.read_heading.Reads as read-heading-reads
-use Rattle.lines.proofs.walk.line_at.Reads as line-at-reads
-use Rattle.orders.proofs.answers.begun_with.Reads as begun-with-reads
-use Rattle.orders.proofs.answers.not_begun.Reads as not-begun-reads
 
--- src/answers.rt:90:9
 not-begun-requires : tie.Need-not-begun-requires
 not-begun-requires c κs = search needs
 
--- src/answers.rt:90:9
 returns : tie.Need-returns
 returns c = rw (too-long (c .before .before .before .args .text .now) (omega (arith, c .before .if1 .taken))) (c .not-begun .ensures)
 
--- src/answers.rt:92:24
 line-at-requires : tie.Need-line-at-requires
 line-at-requires c κs = search needs
 
--- src/answers.rt:92:11
 read-heading-requires : tie.Need-read-heading-requires
 read-heading-requires c κs = search needs
 
--- src/answers.rt:93:27
 enum-known-heading : tie.Need-enum-known-heading
 enum-known-heading c = search needs
 
--- src/answers.rt:93:39
 begun-with-requires : tie.Need-begun-with-requires
 begun-with-requires c κs =
     let k = c .before .before .before in
     rw (← k .before .line-at .ensures, ← k .read-heading .ensures, c .before .heading .given .1)
 
--- src/answers.rt:94:30
 enum-known-number : tie.Need-enum-known-number
 enum-known-number c = search needs
 
--- src/answers.rt:94:41
 not-begun-requires-2 : tie.Need-not-begun-requires-2
 not-begun-requires-2 c κs = search needs
 
--- src/answers.rt:86:1
 returns-2 : tie.Need-returns-2
 returns-2 c =
     let k = c .before .before .before .before in
     let start = k .before .before .before .before in
     rw (heading-right (start .args .text .now) (omega (arith, k .before .before .if1 .left)) _ (begun-with-requires (c .before) (start .κs))) (c .begun-with .ensures)
 
--- src/answers.rt:86:1
 returns-3 : tie.Need-returns-3
 returns-3 c =
     let k = c .before .before .before .before in

@@ -1,0 +1,66 @@
+-- The limit, on the bytes of a list and a plan. Assumes nothing.
+use Prim.Native.Nat.{ℕ, zero, suc, _+_, _-_, _*_, _^_, _≤_}
+use mathlib.Core.Path.{_≡_, refl, sym, ap, _∙_}
+use mathlib.Core.List.{List, _∷_, map}
+use lib.ListN.{length, take, replicate, length-map}
+use native.Mathlib.Omega.{arith}
+use Rattle.ground.specs.Refusal.{right}
+use Rattle.ground.specs.Limits.{mostChambers}
+use Rattle.ground.proofs.Refusal.{same-right}
+use Rattle.lines.specs.Lines.{linesOf, lineAt}
+use Rattle.lines.proofs.Promises.{heading-reads}
+use Rattle.book.specs.declared.Book.{Book}
+use Rattle.orders.specs.Answers.{CleanList, orderLines, answersFrom, yeses}
+use Rattle.plans.specs.Judging.{judged}
+use Rattle.plans.specs.Meaning.{Obeys}
+use Rattle.plans.proofs.Promises.{right-exactly, clean-as-the-desk}
+use Rattle.bound.specs.Plans.{keptOf}
+use Rattle.bound.proofs.Limit.{limit}
+use Rattle.limit.proofs.Numbers.{asOrder, asPlanLoad, lengthsOf, bookOf}
+use Rattle.limit.proofs.Kept.{yeses-are-kept}
+use Rattle.limit.proofs.Turn.{in-turn}
+use Rattle.limit.proofs.Loads.{good-plan}
+
+-- the front of a list of one value is such a list
+take-replicate : {A : Type 0} (count all : ℕ) (value : A) → count ≤ all → take count (replicate all value) ≡ replicate count value
+take-replicate zero all value few = refl
+take-replicate (suc count) zero value few = absurd (omega arith)
+take-replicate (suc count) (suc all) value few = ap (λ rest. value ∷ rest) (take-replicate count all value (omega arith))
+
+module _ (list plan : List ℕ) (obeys : Obeys list plan) where
+  -- the book that the list begins with
+  abbrev listBook : Book
+  listBook = bookOf (obeys .heading)
+
+  -- a list that a plan obeys is clean for the desk
+  clean-list : CleanList list listBook
+  clean-list = clean-as-the-desk list listBook .1 (obeys .heading, obeys .orders, obeys .clean, refl)
+
+  -- a plan has a load for each of its lines
+  loads-counted : length (linesOf plan) ≡ length (map asPlanLoad (obeys .loads))
+  loads-counted = simp length-map (simp length-map at (ap length (obeys .good .read)))
+
+  -- the desk's yeses are what the rule keeps from chambers that are free from hour 0
+  yeses-counted : yeses (answersFrom listBook (orderLines list)) ≡ keptOf (lengthsOf listBook) (replicate (listBook .chambers) 0) (map asOrder (obeys .orders))
+  yeses-counted =
+      let few = heading-reads (lineAt list 0) (obeys .heading) .0 (obeys .clean .headed) .2 .most in
+      yeses-are-kept listBook (orderLines list) (obeys .orders) (obeys .clean .ordered .read) (clean-list .unrefused)
+      ∙ ap (λ free. keptOf (lengthsOf listBook) free (map asOrder (obeys .orders))) (take-replicate (listBook .chambers) mostChambers 0 few)
+
+  -- the limit, for the book of the plan's own list
+  obeying-limit :
+      ((listBook .chambers + 1) ^ listBook .chambers - listBook .chambers ^ listBook .chambers) * length (linesOf plan)
+      ≤ (listBook .chambers + 1) ^ listBook .chambers * yeses (answersFrom listBook (orderLines list))
+  obeying-limit =
+      rw (loads-counted, yeses-counted)
+      (limit (listBook .chambers) (lengthsOf listBook) (map asOrder (obeys .orders)) (map asPlanLoad (obeys .loads))
+      (in-turn (obeys .orders) (obeys .clean .ordered .in-turn)) (good-plan (obeys .heading) (obeys .orders) (linesOf plan) (obeys .loads) (obeys .good)))
+
+-- the limit, for every list of which the desk refuses no line and every plan that the checker judges right
+pub limit-on-bytes :
+    (list plan : List ℕ) (book : Book) (m A Z : ℕ) → CleanList list book → book .chambers ≡ m → yeses (answersFrom book (orderLines list)) ≡ A
+    → judged list plan ≡ right Z → ((m + 1) ^ m - m ^ m) * Z ≤ (m + 1) ^ m * A
+limit-on-bytes list plan book m A Z clean chambers yeses judgement =
+    let obeys = right-exactly list plan Z .0 judgement in
+    let same : book ≡ listBook list plan (obeys .0) = same-right (sym (clean .begun) ∙ clean-list list plan (obeys .0) .begun) in
+    rw (obeys .1, ← chambers, ← yeses, same) (obeying-limit list plan (obeys .0))

@@ -1,0 +1,68 @@
+-- The loads of plan lines with no fault are a good plan. Assumes nothing.
+use Prim.Native.Nat.{ℕ, _+_, _-_, _≤_}
+use mathlib.Core.Path.{_≡_}
+use mathlib.Core.List.{List, [], _∷_, _++_, map, nil≢cons, cons≢nil, head-eq-of-cons-eq, tail-eq-of-cons-eq}
+use lib.ListN.{length}
+use native.Mathlib.Omega.{arith}
+use Rattle.lines.specs.Writing.{firstOrderLine}
+use Rattle.lines.specs.declared.reading.Heading.{Heading}
+use Rattle.lines.specs.declared.reading.Order.{Order}
+use Rattle.lines.specs.declared.reading.Load.{Load}
+use Rattle.lines.proofs.Promises.{load-reads}
+use Rattle.plans.specs.Meaning.{Each, InTime, holdOf, Apart, GoodLoads}
+use Rattle.plans.proofs.Each.{each-first, each-rest, two-first, two-rest}
+use Rattle.bound.specs.Plans.{KeepsTo, ApartFrom, GoodPlan}
+use Rattle.bound.specs.Plans as bound
+use Rattle.limit.proofs.Numbers.{asOrder, asPlanLoad, lengthsOf, bookOf}
+
+-- a load that is in time for an order keeps to it, wherever the order stands
+keeps-at-its-place :
+    (run : ℕ) (front : List Order) (order : Order) (rest : List Order) (start : ℕ) → order .ready ≤ start → start + run ≤ order .due
+    → KeepsTo run (map asOrder (front ++ order ∷ rest)) (length front) start
+unfolding KeepsTo
+keeps-at-its-place run [] order rest start not-early not-late = (not-early, not-late)
+keeps-at-its-place run (first ∷ front) order rest start not-early not-late = keeps-at-its-place run front order rest start not-early not-late
+
+module _ (heading : Heading) (orders : List Order) where
+  -- a load in time keeps to the order that it names
+  keeps-to : (load : Load) → InTime (heading .run) orders load → KeepsTo (heading .run) (map asOrder orders) (asPlanLoad load .order) (load .start)
+  keeps-to load in-time =
+      let named = in-time .named in
+      let place : load .order - firstOrderLine ≡ length (named .front) = omega arith in
+      rw (named .among, place) (keeps-at-its-place (heading .run) (named .front) (in-time .order) (named .rest) (load .start) (in-time .not-early) (in-time .not-late))
+
+  -- two loads that are apart by their lines are apart by their orders' places
+  both-apart :
+      (one other : Load) → InTime (heading .run) orders one → InTime (heading .run) orders other → Apart (holdOf heading) one other
+      → bound.Apart (lengthsOf (bookOf heading)) (asPlanLoad one) (asPlanLoad other)
+  both-apart one other in-time also apart = record {
+    orders-differ = λ same. apart .orders-differ (omega arith);
+    never-overlap = λ together one-first other-first.
+        apart .never-overlap (record { together = together; one-first = one-first; other-first = other-first });
+  }
+
+  -- so is one that is apart from each of several
+  apart-from :
+      (one : Load) (loads : List Load) → InTime (heading .run) orders one → Each (InTime (heading .run) orders) loads → Each (Apart (holdOf heading) one) loads
+      → ApartFrom (lengthsOf (bookOf heading)) (asPlanLoad one) (map asPlanLoad loads)
+  unfolding ApartFrom
+  apart-from one [] in-time each apart = tt
+  apart-from one (other ∷ loads) in-time each apart =
+      (both-apart one other in-time (each-first each) (each-first apart), apart-from one loads in-time (each-rest each) (each-rest apart))
+
+  -- plan lines with no fault: their loads are a good plan for the orders of the list
+  pub good-plan :
+      (lines : List (List ℕ)) (loads : List Load) → GoodLoads heading orders lines loads
+      → GoodPlan (heading .chambers) (lengthsOf (bookOf heading)) (map asOrder orders) (map asPlanLoad loads)
+  unfolding GoodPlan
+  good-plan [] [] good = tt
+  good-plan [] (load ∷ loads) good = absurd (nil≢cons (good .read))
+  good-plan (line ∷ lines) [] good = absurd (cons≢nil (good .read))
+  good-plan (line ∷ lines) (load ∷ loads) good =
+      let in-time = each-first (good .in-time) in
+      let chamber = load-reads (heading .chambers) line load .0 (head-eq-of-cons-eq (good .read)) .2 in (
+        record { keeps = keeps-to load in-time; numbered = (chamber .least, chamber .most) },
+        apart-from load loads in-time (each-rest (good .in-time)) (two-first (good .apart)),
+        good-plan lines loads
+            (record { read = tail-eq-of-cons-eq (good .read); in-time = each-rest (good .in-time); apart = two-rest (good .apart) }),
+      )

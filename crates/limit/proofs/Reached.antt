@@ -1,0 +1,33 @@
+-- The paper's example, computed: the desk refuses no line of its list and says yes five times, and its plan is judged right with nine loads. Assumes nothing.
+use mathlib.Core.Path.{_≡_, refl}
+use Rattle.ground.specs.Refusal.{right}
+use Rattle.ground.specs.Text.{bytes}
+use Rattle.hours.specs.Classes.{classOf}
+use Rattle.hours.specs.Reading.{scanned, hourOf, plainOf}
+use Rattle.lines.specs.Lines.{linesOf, lineLength, lineAt}
+use Rattle.lines.specs.Fields.{sameBytes, isEnded, fieldsOf, shapeOf}
+use Rattle.lines.specs.Reading.{steam, steamAt, ranged, plainWithin, hourWithin, headingOf, orderOf, loadOf}
+use Rattle.book.specs.BestFit.{offer, bestFit}
+use Rattle.book.specs.Soundness.{freshBook, allUpTo, allMet, soundness, isSound}
+use Rattle.book.specs.Taking.{decided}
+use Rattle.orders.specs.Answers.{opening, orderLines, answersFrom, refusals, yeses, CleanList}
+use Rattle.plans.specs.Judging.{through, noteOrder, standsIn, overlapsAny, loadChecked, noteLoad, listJudged, planJudged, loadsCounted, bothJudged, judged}
+use Rattle.limit.specs.Example.{paperList, paperPlan}
+
+-- the list begins with a book of two chambers and a run of three hours, and none of its lines is refused
+pub paper-clean : CleanList paperList (freshBook 2 300)
+unfolding
+    opening orderLines answersFrom refusals bytes classOf scanned hourOf plainOf linesOf lineLength lineAt sameBytes isEnded fieldsOf shapeOf steam steamAt ranged plainWithin hourWithin headingOf orderOf decided isSound soundness allMet allUpTo bestFit offer paperList
+paper-clean = record { begun = refl; unrefused = refl }
+
+-- the desk says yes five times
+pub paper-yeses : yeses (answersFrom (freshBook 2 300) (orderLines paperList)) ≡ 5
+unfolding
+    orderLines answersFrom yeses bytes classOf scanned hourOf plainOf linesOf isEnded fieldsOf shapeOf ranged plainWithin orderOf decided isSound soundness allMet allUpTo bestFit offer paperList
+paper-yeses = refl
+
+-- the plan is judged right with nine loads
+pub paper-right : judged paperList paperPlan ≡ right 9
+unfolding
+    judged bothJudged loadsCounted planJudged listJudged noteLoad loadChecked overlapsAny standsIn noteOrder through orderLines bytes classOf scanned hourOf plainOf linesOf lineLength lineAt sameBytes isEnded fieldsOf shapeOf steam steamAt ranged plainWithin hourWithin headingOf orderOf loadOf decided isSound soundness allMet allUpTo bestFit offer paperList paperPlan
+paper-right = refl

@@ -1,0 +1,2 @@
+-- The paper's whole example.
+pub mod Example
