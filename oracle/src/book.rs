@@ -5,7 +5,7 @@
 //! sound and an hour out of range are refused before anything is added.
 
 use crate::hours::LAST_HOUR;
-use crate::refusal::Refusal;
+use crate::refusal::{within, Refusal};
 
 pub const MOST_CHAMBERS: u32 = 8;
 pub const MOST_TAKEN: u32 = 512;
@@ -29,7 +29,17 @@ pub enum Answer {
 }
 
 impl Book {
-    /// A book with every chamber free from hour 0.
+    /// Opens a book for numbers that may be out of range. A refused opening
+    /// comes with a book that has every field 0.
+    pub fn open(chambers: u32, run: u32) -> (Option<Refusal>, Book) {
+        let in_range = within(chambers, 1, MOST_CHAMBERS).and(within(run, 1, LONGEST_RUN));
+        match in_range {
+            Ok(_) => (None, Book::fresh(chambers, run)),
+            Err(refusal) => (Some(refusal), Book::fresh(0, 0)),
+        }
+    }
+
+    /// A book with every chamber free from hour 0, for numbers in range.
     pub fn fresh(chambers: u32, run: u32) -> Book {
         Book {
             chambers,

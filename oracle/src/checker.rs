@@ -11,12 +11,9 @@ use std::fs;
 
 use crate::book::{Answer, Book, MOST_CHAMBERS};
 use crate::lines::{lines, read_heading, read_load, read_order};
-use crate::lines::{Heading, Order, LINE_END, LONGEST_TEXT, TAB};
+use crate::lines::{Heading, Order, FIRST_ORDER_LINE, LINE_END, LONGEST_TEXT, TAB};
 use crate::numbers::write_number;
 use crate::refusal::Refusal;
-
-/// The line of a list on which its first order stands.
-const FIRST_ORDER_LINE: u32 = 2;
 
 /// One of the two texts, in the order of the program's arguments.
 #[derive(Clone, Copy, Debug, PartialEq, Eq)]

@@ -5,7 +5,9 @@
 //! `LAST_HOUR`, and that a field comes without the tabs and the line end
 //! around it.
 
+use crate::buffer::put_in_front;
 use crate::numbers::{read_digit, read_plain_number, write_number};
+use crate::refusal::{within, Refusal};
 
 /// The last hour, 9999,99 as text.
 pub const LAST_HOUR: u32 = 999_999;
@@ -38,4 +40,12 @@ pub fn write_hour(text: &mut Vec<u8>, hour: u32) {
     text.push(b',');
     text.push(b'0' + (hour / 10 % 10) as u8);
     text.push(b'0' + (hour % 10) as u8);
+}
+
+/// Writes any hour given as a number to the front of the buffer and gives the
+/// length of what was written.
+pub fn put_hour(buffer: &mut [u8], hour: u32) -> Result<usize, Refusal> {
+    let mut text = Vec::new();
+    write_hour(&mut text, within(hour, 0, LAST_HOUR)?);
+    put_in_front(buffer, &text)
 }

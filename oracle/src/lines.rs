@@ -1,19 +1,27 @@
-//! The lines of a text and the reading of a list's and a plan's lines.
+//! The lines of a text, the reading of a list's and a plan's lines, and the
+//! writing of a plan's.
 //!
 //! Assumes that fields are parted by one tab (byte 9) and that a line ends
 //! with byte 10. A line is handed about with its line end, so that the last
 //! line can be seen to lack one.
 
-use crate::book::{LONGEST_RUN, MOST_CHAMBERS};
-use crate::hours::read_hour;
-use crate::numbers::read_plain_number;
-use crate::refusal::Refusal;
+use crate::book::{LONGEST_RUN, MOST_CHAMBERS, MOST_TAKEN};
+use crate::buffer::put_in_front;
+use crate::hours::{read_hour, write_hour, LAST_HOUR};
+use crate::numbers::{read_plain_number, write_number};
+use crate::refusal::{within, Refusal};
 
 pub const TAB: u8 = 9;
 pub const LINE_END: u8 = 10;
 
 /// The most bytes that a list or a plan handed over whole may have.
 pub const LONGEST_TEXT: usize = 65_536;
+
+/// The line of a list on which its first order stands.
+pub const FIRST_ORDER_LINE: u32 = 2;
+
+/// The last line of a list without faults, whose orders a book all takes.
+const LAST_ORDER_LINE: u32 = FIRST_ORDER_LINE + MOST_TAKEN - 1;
 
 /// The highest grower number.
 const LAST_GROWER: u32 = 9_999;
@@ -78,6 +86,23 @@ pub fn read_load(line: &[u8], chambers: u32) -> Result<Load, Refusal> {
     })
 }
 
+/// Writes a plan line to the front of the buffer and gives its length, the
+/// line end included. The chamber may be any that a list can have, since no
+/// list is at hand here.
+pub fn put_load(buffer: &mut [u8], load: Load) -> Result<usize, Refusal> {
+    let order_line = within(load.order_line, FIRST_ORDER_LINE, LAST_ORDER_LINE)?;
+    let chamber = within(load.chamber, 1, MOST_CHAMBERS)?;
+    let start = within(load.start, 0, LAST_HOUR)?;
+    let mut line = Vec::new();
+    write_number(&mut line, order_line);
+    line.push(TAB);
+    write_number(&mut line, chamber);
+    line.push(TAB);
+    write_hour(&mut line, start);
+    line.push(LINE_END);
+    put_in_front(buffer, &line)
+}
+
 /// The three fields of an ended line. Empty fields count.
 fn three_fields(line: &[u8]) -> Result<[&[u8]; 3], Refusal> {
     let Some((&LINE_END, content)) = line.split_last() else {
@@ -90,18 +115,12 @@ fn three_fields(line: &[u8]) -> Result<[&[u8]; 3], Refusal> {
     }
 }
 
-fn number_field(field: &[u8]) -> Result<u32, Refusal> {
+/// The field as a plain number of any size that one can have.
+pub fn number_field(field: &[u8]) -> Result<u32, Refusal> {
     read_plain_number(field).ok_or(Refusal::NotPlainNumber)
 }
 
-fn hour_field(field: &[u8]) -> Result<u32, Refusal> {
+/// The field as an hour.
+pub fn hour_field(field: &[u8]) -> Result<u32, Refusal> {
     read_hour(field).ok_or(Refusal::NotHour)
-}
-
-fn within(number: u32, least: u32, most: u32) -> Result<u32, Refusal> {
-    if (least..=most).contains(&number) {
-        Ok(number)
-    } else {
-        Err(Refusal::OutOfRange)
-    }
 }

@@ -1,6 +1,7 @@
 //! The second program: a desk and a checker written from the paper alone, a
 //! generator of order lists and plans, and the comparison of another desk or
-//! checker with this one's.
+//! checker with this one's. It also answers case files, which hold single
+//! questions about any part of the desk and the checker.
 //!
 //! Assumes that seeds and counts are plain whole numbers of up to 64 bits. It
 //! ends with 0 if all went well, 1 if two programs differ or something could
@@ -8,6 +9,11 @@
 //! with 0 whatever its arguments are, as its reply tells what was not read.
 
 mod book;
+mod buffer;
+mod case_texts;
+mod cases;
+#[cfg(test)]
+mod cases_tests;
 mod chance;
 mod checker;
 #[cfg(test)]
@@ -46,6 +52,7 @@ use pairs::pair;
 const USAGE: &str = "\
 oracle desk                           answers the order list on standard input
 oracle checker LIST PLAN              judges the plan by the list, two files
+oracle cases                          answers the case file on standard input
 oracle list SEED                      writes the order list of this seed
 oracle plan SEED                      writes the plan of this seed, made for that list
 oracle pair-list SEED                 writes the list of this seed's pair for checkers
@@ -64,7 +71,8 @@ fn main() -> ExitCode {
         .collect();
     let words: Vec<&str> = texts.iter().map(AsRef::as_ref).collect();
     let done = match words[..] {
-        ["desk"] => answer_standard_input(),
+        ["desk"] => answer_standard_input(desk::reply),
+        ["cases"] => answer_standard_input(cases::reply),
         ["checker", ..] => print(&checker::reply(&arguments[1..])),
         ["list", seed] => on_number(seed, |seed| print(&lists::list(seed).text)),
         ["plan", seed] => on_number(seed, |seed| print(&plans::plan(seed).text)),
@@ -90,10 +98,10 @@ fn main() -> ExitCode {
     })
 }
 
-fn answer_standard_input() -> io::Result<ExitCode> {
-    let mut list = Vec::new();
-    io::stdin().lock().read_to_end(&mut list)?;
-    print(&desk::reply(&list))
+fn answer_standard_input(reply: impl Fn(&[u8]) -> Vec<u8>) -> io::Result<ExitCode> {
+    let mut input = Vec::new();
+    io::stdin().lock().read_to_end(&mut input)?;
+    print(&reply(&input))
 }
 
 /// Shows the first difference and says how many there are.
