@@ -1,13 +1,12 @@
 // Lines: texts walked through, first lines, orders and plan lines read, and plan lines written with room and without.
 use crate::print;
 use hours::Written;
-use lines::fields;
 use lines::reading;
 use lines::reading::HeadingRead;
 use lines::reading::LoadRead;
 use lines::reading::OrderRead;
-use lines::walk;
 use lines::writing;
+use texts;
 
 pub(crate) fn all() {
     walk_texts();

@@ -7,7 +7,7 @@ use native.Mathlib.Omega.{arith}
 use Rattle.ground.specs.Refusal.{right}
 use Rattle.ground.specs.Limits.{mostChambers}
 use Rattle.ground.proofs.Refusal.{same-right}
-use Rattle.lines.specs.Lines.{linesOf, lineAt}
+use Rattle.texts.specs.Lines.{linesOf, lineAt}
 use Rattle.lines.proofs.Promises.{heading-reads}
 use Rattle.book.specs.declared.Book.{Book}
 use Rattle.orders.specs.Answers.{CleanList, orderLines, answersFrom, yeses}

@@ -4,8 +4,8 @@ use Rattle.ground.specs.Refusal.{right}
 use Rattle.ground.specs.Text.{bytes}
 use Rattle.hours.specs.Classes.{classOf}
 use Rattle.hours.specs.Reading.{scanned, hourOf, plainOf}
-use Rattle.lines.specs.Lines.{linesOf, lineLength, lineAt}
-use Rattle.lines.specs.Fields.{sameBytes, isEnded, fieldsOf, shapeOf}
+use Rattle.texts.specs.Lines.{linesOf, lineLength, lineAt}
+use Rattle.fields.specs.Fields.{sameBytes, isEnded, fieldsOf, shapeOf}
 use Rattle.lines.specs.Reading.{steam, steamAt, ranged, plainWithin, hourWithin, headingOf, orderOf, loadOf}
 use Rattle.book.specs.BestFit.{offer, bestFit}
 use Rattle.book.specs.Soundness.{freshBook, allUpTo, allMet, soundness, isSound}

@@ -6,7 +6,7 @@ use lib.ListN.{length, length-append, length-map, length-replicate}
 use native.Mathlib.Omega.{arith}
 use Rattle.ground.specs.Refusal.{right}
 use Rattle.ground.specs.Limits.{mostChambers, mostOrders, longestText}
-use Rattle.lines.specs.Lines.{linesOf, lineAt}
+use Rattle.texts.specs.Lines.{linesOf, lineAt}
 use Rattle.lines.specs.Writing.{firstOrderLine}
 use Rattle.lines.specs.declared.reading.Heading.{Heading}
 use Rattle.lines.specs.declared.reading.Order.{Order}

@@ -11,11 +11,11 @@ use Rattle.ground.proofs.Digits.{spelled-most}
 use Rattle.ground.proofs.Tests.{by-test}
 use Rattle.hours.specs.Classes.{comma}
 use Rattle.hours.proofs.Writing.{length-of-text}
-use Rattle.lines.specs.Lines.{lineEnd, linesOf}
-use Rattle.lines.specs.Fields.{isNone, isEnded}
+use Rattle.texts.specs.Lines.{lineEnd, linesOf}
+use Rattle.fields.specs.Fields.{isNone, isEnded}
 use Rattle.lines.specs.Reading.{loadOf}
 use Rattle.lines.specs.Writing.{InRange, planText}
-use Rattle.lines.specs.Meaning.{joined}
+use Rattle.texts.specs.Meaning.{joined}
 use Rattle.lines.specs.declared.reading.Load.{Load}
 use Rattle.lines.proofs.RoundTrip.{text-ended, text-reads-back}
 use Rattle.book.specs.declared.Answer.{Answer}

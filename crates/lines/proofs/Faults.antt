@@ -16,9 +16,10 @@ use Rattle.ground.proofs.Tests.{by-test, never-both, not-met}
 use Rattle.hours.specs.Classes.{comma}
 use Rattle.hours.specs.Reading.{hourOf, plainOf}
 use Rattle.hours.proofs.Promises.{reads-exactly, refused-by-three, plain-exactly, refused-by-two}
-use Rattle.lines.specs.Fields.{isEnded, fieldsOf, field, sameBytes, shapeOf}
+use Rattle.fields.specs.Fields.{isEnded, fieldsOf, field, sameBytes, shapeOf}
 use Rattle.lines.specs.Reading.{lastGrower, steam, steamAt, ranged, plainWithin, hourWithin, headingOf, orderOf, loadOf}
-use Rattle.lines.specs.Meaning.{HasFields, PlainReads, PlainFault, HourReads, HourFault, WordReads, WordFault, LineFault, HeadingFault, OrderFault, LoadFault}
+use Rattle.fields.specs.Meaning.{HasFields}
+use Rattle.lines.specs.Meaning.{PlainReads, PlainFault, HourReads, HourFault, WordReads, WordFault, LineFault, HeadingFault, OrderFault, LoadFault}
 use Rattle.lines.specs.Meaning.PlainFault.{unread as no-plain, outside as plain-outside}
 use Rattle.lines.specs.Meaning.HourFault.{unread as no-hour, outside as hour-outside}
 use Rattle.lines.specs.Meaning.WordFault.{other as no-word}
@@ -28,8 +29,8 @@ use Rattle.lines.specs.declared.reading.Order.{Order}
 use Rattle.lines.specs.declared.reading.Load.{Load}
 use Rattle.lines.specs.declared.reading.Three.{Three}
 use Rattle.lines.specs.Steps.{threeOf}
-use Rattle.lines.proofs.Words.{same-exactly}
-use Rattle.lines.proofs.Splits.{has-fields}
+use Rattle.fields.proofs.Words.{same-exactly}
+use Rattle.fields.proofs.Splits.{has-fields}
 use Rattle.lines.proofs.LineReading.{any-hour, any-plain}
 
 -- a number that is read and held to a range reads as itself where it lies in it

@@ -14,7 +14,7 @@ use Rattle.ground.proofs.Digits.{plain-worth}
 use Rattle.hours.specs.Classes.{comma}
 use Rattle.hours.specs.Reading.{hourOf, plainOf}
 use Rattle.hours.proofs.Promises.{read-at-most, plain-exactly}
-use Rattle.lines.specs.Fields.{isEnded, fieldsOf, fieldCount, shapeOf}
+use Rattle.fields.specs.Fields.{isEnded, fieldsOf, fieldCount, shapeOf}
 use Rattle.lines.specs.Reading.{ranged, plainWithin, hourWithin}
 use Rattle.lines.specs.declared.reading.Three.{Three}
 use Rattle.lines.specs.Steps.{threeOf}

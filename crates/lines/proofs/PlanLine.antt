@@ -21,8 +21,8 @@ use Rattle.ground.proofs.Writing as writing
 use Rattle.ground.proofs.Buffer.{onto-all, onto-byte, onto-part}
 use Rattle.hours.specs.Classes.{comma}
 use Rattle.hours.specs.Writing.{hourText, hourWritten}
-use Rattle.lines.specs.Lines.{lineEnd}
-use Rattle.lines.specs.Fields.{tab}
+use Rattle.texts.specs.Lines.{lineEnd}
+use Rattle.fields.specs.Fields.{tab}
 use Rattle.lines.specs.Writing.{firstOrderLine, lastOrderLine, InRange, inRange, planText, planWritten}
 
 -- A front stands in a buffer that has room for one piece behind it and for nothing else.

@@ -1,8 +1,7 @@
 -- What this room promises, about the very definitions that its contracts cite. Each is a line over a law of this folder. Assumes nothing.
 use Prim.Native.Nat.{ℕ, _≤_, _<_}
-use mathlib.Core.Path.{_≡_, sym, ap, _∙_}
-use mathlib.Core.Bool.{true}
-use mathlib.Core.List.{List, [], _∷_}
+use mathlib.Core.Path.{_≡_, sym, ap}
+use mathlib.Core.List.{List}
 use mathlib.Core.Logic.{_↔_}
 use lib.ListN.{length, take, drop}
 use Rattle.ground.specs.Refusal.{wrong, right}
@@ -11,56 +10,24 @@ use Rattle.ground.specs.Buffer.{fitted, lengthOf, bufferAfter}
 use Rattle.ground.specs.Outcome.{Injective, Single}
 use Rattle.ground.proofs.Refusal.{never-right, same-right, same-wrong}
 use Rattle.ground.proofs.Buffer.{refused-stays, written-rest}
-use Rattle.ground.proofs.Outcome.{single-answer, single-value, single-writing}
+use Rattle.ground.proofs.Outcome.{single-answer, single-writing}
 use Rattle.hours.specs.Writing.{asLength}
 use Rattle.hours.specs.declared.Written.{Written}
 use Rattle.hours.proofs.Promises.{length-told}
-use Rattle.lines.specs.Lines.{linesOf, lineAt, pastLine}
-use Rattle.lines.specs.Fields.{isEnded, fieldsOf, field, afterField, fieldCount, sameBytes, shapeOf}
+use Rattle.fields.specs.Fields.{field}
 use Rattle.lines.specs.Reading.{lastGrower, headingOf, orderOf, loadOf, asHeading, asOrder, asLoad}
 use Rattle.lines.specs.Writing.{InRange, planText, planWritten}
-use Rattle.lines.specs.Meaning.{joined, AreLines, Splits, HasFields, PlainReads, HourReads, WordReads, HeadingFault, OrderFault, LoadFault}
-use denote.Ref.{RefT, now}
-use Rattle.lines.specs.declared.walk.Walk.{Walk}
+use Rattle.fields.specs.Meaning.{HasFields}
+use Rattle.lines.specs.Meaning.{PlainReads, HourReads, WordReads, HeadingFault, OrderFault, LoadFault}
 use Rattle.lines.specs.declared.reading.Heading.{Heading}
 use Rattle.lines.specs.declared.reading.Order.{Order}
 use Rattle.lines.specs.declared.reading.Load.{Load}
 use Rattle.lines.specs.declared.reading.HeadingRead.the-variants as heading
 use Rattle.lines.specs.declared.reading.OrderRead.the-variants as order
 use Rattle.lines.specs.declared.reading.LoadRead.the-variants as load
-use Rattle.lines.proofs.WholeText as whole
-use Rattle.lines.proofs.Words as words
-use Rattle.lines.proofs.Splits as splits
 use Rattle.lines.proofs.Faults as faults
 use Rattle.lines.proofs.PlanLine as plan
 use Rattle.lines.proofs.RoundTrip as back
-
--- 2g: the lines joined are the text; every line but a last unended one ends with byte 10 and holds no other; and only these lines are so
-pub lines-joined : (text : List ℕ) → joined (linesOf text) ≡ text
-lines-joined = whole.lines-joined
-
-pub lines-are : (text : List ℕ) → AreLines (linesOf text)
-lines-are = whole.lines-are
-
-pub lines-only : (lines : List (List ℕ)) → AreLines lines → linesOf (joined lines) ≡ lines
-lines-only lines = whole.lines-only
-
--- 2g: a walk at a place hands out the line there, a byte of it at least, and goes on past it; at or past the end it hands out the empty part and stays
-pub walk-on : (text : List ℕ) (at : ℕ) → at < length text → linesOf (drop at text) ≡ lineAt text at ∷ linesOf (drop (pastLine text at) text)
-walk-on = whole.walk-on
-
-pub walk-some : (text : List ℕ) (at : ℕ) → at < length text → 1 ≤ length (lineAt text at)
-walk-some = whole.walk-some
-
-pub walk-done : (text : List ℕ) (at : ℕ) → length text ≤ at → (linesOf (drop at text) ≡ []) × (lineAt text at ≡ []) × (pastLine text at ≡ at)
-walk-done = whole.walk-done
-
--- a line is ended and has these fields exactly when it splits into them, and has the shape exactly when it splits into so many
-pub splits-exactly : (line : List ℕ) (fields : List (List ℕ)) → ((isEnded line ≡ true) × (fieldsOf line ≡ fields)) ↔ Splits line fields
-splits-exactly = splits.splits-exactly
-
-pub has-fields : (count : ℕ) (line : List ℕ) → (shapeOf count line ≡ right tt) ↔ HasFields count line
-has-fields = splits.has-fields
 
 -- 1b: a list's first line is refused by a number exactly when its first fault has that number, and its values are what its fields read as
 pub heading-fault : (line : List ℕ) (number : ℕ) → (headingOf line ≡ wrong number) ↔ HeadingFault line number
@@ -100,10 +67,6 @@ pub load-reads :
     × PlainReads 1 count (field 1 line) (values .chamber)
     × HourReads 0 lastHour (field 2 line) (values .start))
 load-reads = faults.load-reads
-
--- two texts are the same byte for byte exactly when they are one
-pub same-exactly : (one other : List ℕ) → (sameBytes one other ≡ true) ↔ (one ≡ other)
-same-exactly = words.same-exactly
 
 -- 1b: a plan line is refused by 4 exactly when a number is out of its range, whatever the room
 pub refused-by-four :
@@ -170,47 +133,7 @@ load-told (load.Read one) (load.Refused other) same = absurd (never-right (sym s
 load-told (load.Refused one) (load.Read other) same = absurd (never-right same)
 load-told (load.Refused one) (load.Refused other) same = ap load.Refused (same-wrong same)
 
--- 1d: each public function's contract admits a single outcome; of a returned part it gives the contents
-pub line-end-single : (text : List ℕ) (at : ℕ) → Single (λ end. end ≡ pastLine text at)
-line-end-single text at = single-value (pastLine text at)
-
-pub line-at-single : (text : List ℕ) (at : ℕ) → Single (λ line. line ≡ lineAt text at)
-line-at-single text at = single-value (lineAt text at)
-
--- two walks with one text and one place are one
-same-walk : (text : RefT (List ℕ)) (at : ℕ) → Single (λ (walk : Walk). (walk .text ≡ text) × (walk .at ≡ at))
-same-walk text at one other p q =
-    let texts : one .text ≡ other .text = p .0 ∙ sym (q .0) in
-    let places : one .at ≡ other .at = p .1 ∙ sym (q .1) in
-    λ i. record { text = texts i; at = places i }
-
-pub start-single : (text : RefT (List ℕ)) → Single (λ (walk : Walk). (walk .text ≡ text) × (walk .at ≡ 0))
-start-single text = same-walk text 0
-
-pub next-single :
-    (walk : Walk)
-    → Single {A = List ℕ × Walk}
-    (λ outcome.
-    (outcome .0 ≡ lineAt (now (walk .text)) (walk .at))
-    × (outcome .1 .text ≡ walk .text)
-    × (outcome .1 .at ≡ pastLine (now (walk .text)) (walk .at)))
-next-single walk one other p q =
-    let lines : one .0 ≡ other .0 = p .0 ∙ sym (q .0) in
-    let walks : one .1 ≡ other .1 = same-walk (walk .text) (pastLine (now (walk .text)) (walk .at)) (one .1) (other .1) (p .1, p .2) (q .1, q .2) in
-    λ i. (lines i, walks i)
-
-pub field-count-single : (line : List ℕ) → Single (λ count. count ≡ fieldCount line)
-field-count-single line = single-value (fieldCount line)
-
-pub field-at-single : (line : List ℕ) (place : ℕ) → Single (λ text. text ≡ field place line)
-field-at-single line place = single-value (field place line)
-
-pub after-field-single : (line : List ℕ) → Single (λ rest. rest ≡ afterField line)
-after-field-single line = single-value (afterField line)
-
-pub same-bytes-single : (one other : List ℕ) → Single (λ same. same ≡ sameBytes one other)
-same-bytes-single one other = single-value (sameBytes one other)
-
+-- 1d: each public function's contract admits a single outcome
 pub read-heading-single : (line : List ℕ) → Single (λ answer. asHeading answer ≡ headingOf line)
 read-heading-single line = single-answer asHeading heading-told (headingOf line)
 

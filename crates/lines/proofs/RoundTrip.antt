@@ -20,14 +20,14 @@ use Rattle.hours.specs.Reading.{plainOf}
 use Rattle.hours.specs.Writing.{hourText}
 use Rattle.hours.proofs.Promises.{plain-exactly}
 use Rattle.hours.proofs.Writing.{reads-back}
-use Rattle.lines.specs.Lines.{lineEnd}
-use Rattle.lines.specs.Fields.{tab, isEnded, fieldsOf, shapeOf}
+use Rattle.texts.specs.Lines.{lineEnd}
+use Rattle.fields.specs.Fields.{tab, isEnded, fieldsOf, shapeOf}
 use Rattle.lines.specs.Reading.{ranged, plainWithin, loadOf}
 use Rattle.lines.specs.Writing.{InRange, planText, planWritten}
-use Rattle.lines.specs.Meaning.{isClean, allClean, tabbed}
+use Rattle.fields.specs.Meaning.{isClean, allClean, tabbed}
 use Rattle.lines.specs.declared.reading.Load.{Load}
 use Rattle.lines.proofs.PlanLine.{written-exactly}
-use Rattle.lines.proofs.Splits.{fields-of-tabbed}
+use Rattle.fields.proofs.Splits.{fields-of-tabbed}
 
 -- digits are clean, and so is what is put behind a clean text
 clean-byte : (byte : ℕ) (rest : List ℕ) → (byte ≡ tab → ⊥) → (byte ≡ lineEnd → ⊥) → isClean rest ≡ true → isClean (byte ∷ rest) ≡ true

@@ -1,61 +1,15 @@
--- What it means that a line has fields, that its fields read, and which fault is its first. It is no way of reading; the readers are proved to go by it.
+-- What it means that the fields of a line read, and which fault is its first. It is no way of reading; the readers are proved to go by it.
 -- Assumes nothing.
 use Prim.Native.Nat.{ℕ, _≤_}
 use mathlib.Core.Path.{_≡_}
-use mathlib.Core.Bool.{Bool, true, not, _&&_}
-use mathlib.Core.List.{List, [], _∷_, _++_}
-use lib.ListN.{length}
-use lib.Dec.{eqb}
+use mathlib.Core.List.{List}
 use Rattle.ground.specs.Limits.{lastHour, mostChambers, longestRun, lastPlain}
 use Rattle.ground.specs.Digits.{Plain, valueOf}
 use Rattle.hours.specs.Classes.{comma}
 use Rattle.hours.specs.Spelling.{Spells}
-use Rattle.lines.specs.Lines.{lineEnd}
-use Rattle.lines.specs.Fields.{tab, field}
+use Rattle.fields.specs.Meaning.{HasFields}
+use Rattle.fields.specs.Fields.{field}
 use Rattle.lines.specs.Reading.{steam, lastGrower}
-
--- a text with no line end in it
-unfoldable pub isUnbroken : List ℕ → Bool
-isUnbroken [] = true
-isUnbroken (byte ∷ rest) = not (eqb byte lineEnd) && isUnbroken rest
-
--- texts one behind the other
-unfoldable pub joined : List (List ℕ) → List ℕ
-joined [] = []
-joined (text ∷ texts) = text ++ joined texts
-
--- "Each line ends with byte 10. Bytes after the last byte 10, if there are any, count as a line"
-pub data AreLines : List (List ℕ) → Type 0 where
-  none : AreLines []
-  unended : (line : List ℕ) → 1 ≤ length line → isUnbroken line ≡ true → AreLines (line ∷ [])
-  more : (body : List ℕ) (lines : List (List ℕ)) → isUnbroken body ≡ true → AreLines lines → AreLines ((body ++ lineEnd ∷ []) ∷ lines)
-
--- a text with neither a tab nor a line end in it
-unfoldable pub isClean : List ℕ → Bool
-isClean [] = true
-isClean (byte ∷ rest) = (not (eqb byte tab) && not (eqb byte lineEnd)) && isClean rest
-
-unfoldable pub allClean : List (List ℕ) → Bool
-allClean [] = true
-allClean (text ∷ texts) = isClean text && allClean texts
-
--- texts with a tab between each two
-unfoldable pub tabbed : List (List ℕ) → List ℕ
-tabbed [] = []
-tabbed (text ∷ []) = text
-tabbed (text ∷ next ∷ texts) = text ++ tab ∷ tabbed (next ∷ texts)
-
--- a line splits into fields: they stand in it with a tab between each two and the line end behind, and none has a tab or a line end in it
-pub record Splits (line : List ℕ) (fields : List (List ℕ)) : Type 0 where
-  pub some : 1 ≤ length fields
-  pub clean : allClean fields ≡ true
-  pub joined : line ≡ tabbed fields ++ lineEnd ∷ []
-
--- a line that is ended and has so many fields
-pub record HasFields (count : ℕ) (line : List ℕ) : Type 0 where
-  pub fields : List (List ℕ)
-  pub splits : Splits line fields
-  pub counted : length fields ≡ count
 
 -- a number field reads: it is a plain number in its range
 pub record PlainReads (low high : ℕ) (text : List ℕ) (number : ℕ) : Type 0 where

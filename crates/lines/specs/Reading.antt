@@ -7,7 +7,7 @@ use Rattle.ground.specs.Limits.{mostChambers, longestRun}
 use Rattle.ground.specs.Text.{bytes}
 use Rattle.hours.specs.Classes.{comma}
 use Rattle.hours.specs.Reading.{hourOf, plainOf}
-use Rattle.lines.specs.Fields.{field, sameBytes, shapeOf}
+use Rattle.fields.specs.Fields.{field, sameBytes, shapeOf}
 use Rattle.lines.specs.declared.reading.Heading.{Heading}
 use Rattle.lines.specs.declared.reading.Order.{Order}
 use Rattle.lines.specs.declared.reading.Load.{Load}

@@ -9,8 +9,8 @@ use Rattle.ground.specs.Limits.{lastHour, mostChambers, mostOrders}
 use Rattle.ground.specs.Digits.{spelled}
 use Rattle.hours.specs.Classes.{comma}
 use Rattle.hours.specs.Writing.{hourText, hourWritten}
-use Rattle.lines.specs.Lines.{lineEnd}
-use Rattle.lines.specs.Fields.{tab}
+use Rattle.texts.specs.Lines.{lineEnd}
+use Rattle.fields.specs.Fields.{tab}
 
 -- "the first line is 1, so orders start at 2": the lines that an order can stand on
 abbrev pub firstOrderLine : ℕ

@@ -11,7 +11,7 @@ use Rattle.ground.specs.Refusal.{Read, wrong, right, _>>=_}
 use Rattle.ground.specs.Limits.{longestText}
 use Rattle.ground.proofs.Refusal.{never-right, same-right, same-wrong, passed-by}
 use Rattle.ground.proofs.Tests.{by-test}
-use Rattle.lines.specs.Lines.{lineAt}
+use Rattle.texts.specs.Lines.{lineAt}
 use Rattle.lines.specs.Reading.{headingOf}
 use Rattle.lines.specs.declared.reading.Heading.{Heading}
 use Rattle.lines.specs.Meaning.{HeadingFault, shape, one, two, last, other as other-word}

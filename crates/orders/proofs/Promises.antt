@@ -8,8 +8,8 @@ use Rattle.ground.specs.Refusal.{Read, wrong, right}
 use Rattle.ground.specs.Limits.{longestText}
 use Rattle.ground.specs.Outcome.{Single}
 use Rattle.ground.proofs.Outcome.{single-answer, single-value}
-use Rattle.lines.specs.Lines.{linesOf, lineLength, lineAt}
-use Rattle.lines.specs.Fields.{isEnded, shapeOf}
+use Rattle.texts.specs.Lines.{linesOf, lineLength, lineAt}
+use Rattle.fields.specs.Fields.{isEnded, shapeOf}
 use Rattle.lines.specs.Reading.{headingOf, orderOf}
 use Rattle.lines.specs.Meaning.{HeadingFault}
 use Rattle.lines.specs.declared.reading.Order.{Order}

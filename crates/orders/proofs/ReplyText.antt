@@ -7,11 +7,12 @@ use lib.Dec.{eqb}
 use Rattle.ground.specs.Refusal.{Read, wrong, right}
 use Rattle.ground.specs.Text.{bytes}
 use Rattle.ground.proofs.Tests.{both, first-of, second-of}
-use Rattle.lines.specs.Lines.{lineEnd, linesOf}
-use Rattle.lines.specs.Fields.{tab}
-use Rattle.lines.specs.Meaning.{isUnbroken, isClean, allClean, tabbed, AreLines, none, more}
+use Rattle.texts.specs.Lines.{lineEnd, linesOf}
+use Rattle.fields.specs.Fields.{tab}
+use Rattle.texts.specs.Meaning.{isUnbroken, AreLines, none, more}
+use Rattle.fields.specs.Meaning.{isClean, allClean, tabbed}
 use Rattle.lines.proofs.RoundTrip.{clean-number, clean-hour}
-use Rattle.lines.proofs.Promises.{lines-only}
+use Rattle.texts.proofs.Promises.{lines-only}
 use Rattle.book.specs.declared.Book.{Book}
 use Rattle.book.specs.declared.Answer.{Answer}
 use Rattle.book.specs.declared.Answer.the-variants.{Yes, No, Refused}

@@ -18,9 +18,9 @@ use Rattle.ground.proofs.Writing as writing
 use Rattle.hours.specs.Classes.{comma}
 use Rattle.hours.specs.Writing.{hourText}
 use Rattle.hours.proofs.Writing.{length-of-text}
-use Rattle.lines.specs.Lines.{lineEnd}
-use Rattle.lines.specs.Fields.{tab}
-use Rattle.lines.specs.Meaning.{tabbed}
+use Rattle.texts.specs.Lines.{lineEnd}
+use Rattle.fields.specs.Fields.{tab}
+use Rattle.fields.specs.Meaning.{tabbed}
 use Rattle.pieces.specs.Placing.{stopped}
 use Rattle.book.specs.declared.Answer.{Answer}
 use Rattle.book.specs.declared.Answer.the-variants.{Yes, No, Refused}

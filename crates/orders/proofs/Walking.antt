@@ -10,9 +10,9 @@ use native.Mathlib.Omega.{arith}
 use borrow.Author.Tests.{ltb-true, ltb-false}
 use Rattle.ground.specs.Refusal.{right}
 use Rattle.ground.proofs.Tests.{by-test}
-use Rattle.lines.specs.Lines.{lineEnd, before, linesOf, lineLength, lineAt, pastLine}
+use Rattle.texts.specs.Lines.{lineEnd, before, linesOf, lineLength, lineAt, pastLine}
 use Rattle.lines.specs.Reading.{orderOf}
-use Rattle.lines.proofs.Promises.{walk-on, walk-some, walk-done}
+use Rattle.texts.proofs.Promises.{walk-on, walk-some, walk-done}
 use Rattle.book.specs.Taking.{answerOf}
 use Rattle.book.specs.declared.Book.{Book}
 use Rattle.orders.specs.Answers.{opening, orderLines, answersFrom, bookAfter, decision, bookPast, lastLine, lineAfter, begunBy, progressPast}

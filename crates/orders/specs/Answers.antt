@@ -7,7 +7,7 @@ use lib.ListN.{length, drop}
 use lib.Dec.{leb, eqb}
 use Rattle.ground.specs.Refusal.{Read, wrong, right, check, _>>=_, _>>_}
 use Rattle.ground.specs.Limits.{longestText}
-use Rattle.lines.specs.Lines.{linesOf, lineAt, pastLine}
+use Rattle.texts.specs.Lines.{linesOf, lineAt, pastLine}
 use Rattle.lines.specs.Reading.{headingOf, orderOf}
 use Rattle.lines.specs.Writing.{planText}
 use Rattle.lines.specs.declared.reading.Order.{Order}

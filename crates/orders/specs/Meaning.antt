@@ -3,7 +3,7 @@ use Prim.Native.Nat.{ℕ, _≤_, _<_}
 use mathlib.Core.List.{List, [], _∷_}
 use lib.ListN.{length}
 use Rattle.ground.specs.Limits.{lastHour}
-use Rattle.lines.specs.Lines.{lineAt}
+use Rattle.texts.specs.Lines.{lineAt}
 use Rattle.lines.specs.Reading.{orderOf}
 use Rattle.book.specs.Taking.{answerOf}
 use Rattle.book.specs.declared.Answer.{Answer}

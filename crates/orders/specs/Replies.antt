@@ -9,8 +9,9 @@ use Rattle.ground.specs.Digits.{spelled}
 use Rattle.ground.specs.Text.{bytes}
 use Rattle.hours.specs.Classes.{comma}
 use Rattle.hours.specs.Writing.{hourText}
-use Rattle.lines.specs.Lines.{lineEnd}
-use Rattle.lines.specs.Meaning.{joined, tabbed}
+use Rattle.texts.specs.Lines.{lineEnd}
+use Rattle.texts.specs.Meaning.{joined}
+use Rattle.fields.specs.Meaning.{tabbed}
 use Rattle.book.specs.declared.Book.{Book}
 use Rattle.book.specs.declared.Answer.{Answer}
 use Rattle.book.specs.declared.Answer.the-variants.{Yes, No, Refused}

@@ -2,7 +2,7 @@
 // Any bytes and any progress may come. Assumes nothing.
 ghost use mathlib.Core.Path.{_≡_};
 ghost use Rattle.ground.specs.Refusal.{right};
-ghost use Rattle.lines.specs.Lines.{lineAt};
+ghost use Rattle.texts.specs.Lines.{lineAt};
 ghost use Rattle.lines.specs.Reading.{headingOf, orderOf};
 ghost use Rattle.book.specs.Soundness.{freshBook};
 ghost use Rattle.book.specs.Taking.{told};
@@ -17,8 +17,8 @@ use lines::reading::Order;
 use lines::reading::OrderRead;
 use lines::reading::read_heading;
 use lines::reading::read_order;
-use lines::walk::line_at;
-use lines::walk::line_end;
+use texts::line_at;
+use texts::line_end;
 
 // The last number that a line can be counted by.
 const LAST_LINE: u32 = 4_294_967_295;

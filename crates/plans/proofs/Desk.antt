@@ -8,7 +8,7 @@ use native.Mathlib.Omega.{arith}
 use Rattle.ground.specs.Refusal.{Read, wrong, right, _>>=_}
 use Rattle.ground.specs.Limits.{longestText}
 use Rattle.ground.proofs.Refusal.{never-right, same-right}
-use Rattle.lines.specs.Lines.{lineAt}
+use Rattle.texts.specs.Lines.{lineAt}
 use Rattle.lines.specs.Reading.{headingOf, orderOf}
 use Rattle.lines.specs.declared.reading.Heading.{Heading}
 use Rattle.lines.specs.declared.reading.Order.{Order}

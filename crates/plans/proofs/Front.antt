@@ -8,12 +8,12 @@ use native.Mathlib.Omega.{arith}
 use Rattle.ground.specs.Refusal.{wrong, right}
 use Rattle.ground.specs.Limits.{longestText}
 use Rattle.ground.proofs.Tests.{never-both}
-use Rattle.lines.specs.Lines.{linesOf}
-use Rattle.lines.specs.Meaning.{joined, AreLines, none, unended, more}
+use Rattle.texts.specs.Lines.{linesOf}
+use Rattle.texts.specs.Meaning.{joined, AreLines, none, unended, more}
 use Rattle.lines.specs.declared.reading.Heading.{Heading}
 use Rattle.lines.specs.declared.reading.Order.{Order}
 use Rattle.lines.specs.declared.reading.Load.{Load}
-use Rattle.lines.proofs.Promises.{lines-joined, lines-are, lines-only}
+use Rattle.texts.proofs.Promises.{lines-joined, lines-are, lines-only}
 use Rattle.plans.specs.Judging.{judged, shown}
 use Rattle.plans.specs.Meaning.{CleanList, GoodLoads, FirstFault, list-long, plan-long, in-heading, in-list, in-plan}
 use Rattle.plans.specs.declared.Fault.{Fault}

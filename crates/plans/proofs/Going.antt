@@ -7,9 +7,9 @@ use lib.ListN.{length, take, drop, length-take, length-drop}
 use native.Mathlib.Numerals.{add-one}
 use native.Mathlib.Omega.{arith}
 use Rattle.ground.specs.Refusal.{Read, wrong, right}
-use Rattle.lines.specs.Lines.{linesOf, lineLength, lineAt, pastLine}
-use Rattle.lines.proofs.Lines.{line-within, line-is}
-use Rattle.lines.proofs.Promises.{walk-on, walk-some, walk-done}
+use Rattle.texts.specs.Lines.{linesOf, lineLength, lineAt, pastLine}
+use Rattle.texts.proofs.Lines.{line-within, line-is}
+use Rattle.texts.proofs.Promises.{walk-on, walk-some, walk-done}
 use Rattle.plans.specs.Judging.{through}
 
 -- the place past a line is its own and the line's length

@@ -13,15 +13,16 @@ use Rattle.ground.specs.Refusal.{Or, Read, wrong, right, _>>=_}
 use Rattle.ground.specs.Limits.{longestText}
 use Rattle.ground.proofs.Refusal.{never-right, same-right, same-wrong}
 use Rattle.ground.proofs.Tests.{by-test}
-use Rattle.lines.specs.Lines.{linesOf, lineLength, lineAt, pastLine}
+use Rattle.texts.specs.Lines.{linesOf, lineLength, lineAt, pastLine}
 use Rattle.lines.specs.Reading.{headingOf, loadOf}
 use Rattle.lines.specs.Writing.{firstOrderLine}
-use Rattle.lines.specs.Meaning.{joined}
+use Rattle.texts.specs.Meaning.{joined}
 use Rattle.lines.specs.declared.reading.Heading.{Heading}
 use Rattle.lines.specs.declared.reading.Order.{Order}
 use Rattle.lines.specs.declared.reading.Load.{Load}
-use Rattle.lines.proofs.Lines.{line-within}
-use Rattle.lines.proofs.Promises.{lines-joined, walk-on, walk-done, heading-fault}
+use Rattle.texts.proofs.Lines.{line-within}
+use Rattle.texts.proofs.Promises.{lines-joined, walk-on, walk-done}
+use Rattle.lines.proofs.Promises.{heading-fault}
 use Rattle.orders.specs.Answers.{orderLines}
 use Rattle.plans.specs.Judging.{faultAt, listJudged, planJudged, loadsCounted, bothJudged, judged, partOf, shown}
 use Rattle.plans.specs.Meaning.{CleanList, GoodLoads, Obeys, FirstFault, list-long, plan-long, in-heading, in-list, in-plan}

@@ -7,9 +7,9 @@ use lib.ListN.{length}
 use native.Mathlib.Omega.{arith}
 use Rattle.ground.specs.Digits.{spelled}
 use Rattle.ground.specs.Text.{bytes}
-use Rattle.lines.specs.Lines.{lineEnd}
-use Rattle.lines.specs.Fields.{tab}
-use Rattle.lines.specs.Meaning.{tabbed}
+use Rattle.texts.specs.Lines.{lineEnd}
+use Rattle.fields.specs.Fields.{tab}
+use Rattle.fields.specs.Meaning.{tabbed}
 use Rattle.pieces.specs.Placing.{stopped}
 use Rattle.plans.specs.Printing.{textWord, judgementLine}
 use Rattle.plans.specs.declared.Fault.{Fault}

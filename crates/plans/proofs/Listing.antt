@@ -12,10 +12,10 @@ use Rattle.ground.specs.Refusal.{Read, wrong, right, _>>=_}
 use Rattle.ground.specs.Limits.{lastHour, mostOrders}
 use Rattle.ground.proofs.Refusal.{never-right, same-right}
 use Rattle.ground.proofs.Tests.{by-test}
-use Rattle.lines.specs.Lines.{lineAt, pastLine}
+use Rattle.texts.specs.Lines.{lineAt, pastLine}
 use Rattle.lines.specs.Reading.{headingOf, orderOf}
 use Rattle.lines.specs.Writing.{firstOrderLine}
-use Rattle.lines.specs.Meaning.{joined}
+use Rattle.texts.specs.Meaning.{joined}
 use Rattle.lines.specs.declared.reading.Heading.{Heading}
 use Rattle.lines.specs.declared.reading.Order.{Order}
 use Rattle.lines.proofs.Promises.{heading-reads, order-reads, order-fault}

@@ -7,9 +7,9 @@ use mathlib.Core.List.{List, [], _∷_, _++_, map, append-nil, append-assoc, nil
 use lib.ListN.{length}
 use native.Mathlib.Omega.{arith}
 use Rattle.ground.specs.Refusal.{Read, wrong, right}
-use Rattle.lines.specs.Lines.{linesOf}
+use Rattle.texts.specs.Lines.{linesOf}
 use Rattle.lines.specs.Reading.{loadOf}
-use Rattle.lines.specs.Meaning.{joined}
+use Rattle.texts.specs.Meaning.{joined}
 use Rattle.lines.specs.declared.reading.Heading.{Heading}
 use Rattle.lines.specs.declared.reading.Order.{Order}
 use Rattle.lines.specs.declared.reading.Load.{Load}

@@ -10,7 +10,7 @@ use native.Mathlib.Omega.{arith}
 use Rattle.ground.specs.Refusal.{Or, Read, wrong, right, numberOf}
 use Rattle.ground.specs.Limits.{mostOrders}
 use Rattle.ground.proofs.Refusal.{never-right, same-right, refused-by}
-use Rattle.lines.specs.Lines.{linesOf, lineAt, pastLine}
+use Rattle.texts.specs.Lines.{linesOf, lineAt, pastLine}
 use Rattle.lines.specs.Reading.{orderOf}
 use Rattle.lines.specs.Meaning.{OrderFault, shape, one, two, last}
 use Rattle.lines.specs.Meaning.PlainFault.{unread as no-plain, outside as plain-outside}

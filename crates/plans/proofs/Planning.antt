@@ -15,12 +15,12 @@ use Rattle.ground.specs.Range.{within}
 use Rattle.ground.proofs.Refusal.{refused-by}
 use Rattle.ground.proofs.Tests.{by-test, never-both}
 use Rattle.ground.proofs.Range.{within-low, within-high}
-use Rattle.lines.specs.Lines.{linesOf, lineAt, pastLine}
+use Rattle.texts.specs.Lines.{linesOf, lineAt, pastLine}
 use Rattle.lines.specs.Reading.{loadOf}
 use Rattle.lines.specs.Writing.{firstOrderLine}
 use Rattle.lines.specs.declared.reading.Heading.{Heading}
 use Rattle.lines.specs.declared.reading.Load.{Load}
-use Rattle.lines.proofs.Promises.{walk-on}
+use Rattle.texts.proofs.Promises.{walk-on}
 use Rattle.orders.proofs.Walking.{lines-within}
 use Rattle.plans.specs.Judging.{through, PlanKnown, standsIn, overlap, overlapsAny, loadChecked, noteLoad, planJudged, loadsCounted}
 use Rattle.plans.specs.Steps.{loadMarked, loadRefusal, Loaded}

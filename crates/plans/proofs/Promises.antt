@@ -10,7 +10,7 @@ use Rattle.ground.specs.Limits.{longestText}
 use Rattle.ground.specs.Outcome.{Injective, Single}
 use Rattle.ground.proofs.Refusal.{never-right, same-right, same-wrong}
 use Rattle.ground.proofs.Outcome.{single-answer, single-value}
-use Rattle.lines.specs.Lines.{linesOf}
+use Rattle.texts.specs.Lines.{linesOf}
 use Rattle.lines.specs.declared.reading.Heading.{Heading}
 use Rattle.lines.specs.declared.reading.Order.{Order}
 use Rattle.lines.specs.declared.reading.Load.{Load}

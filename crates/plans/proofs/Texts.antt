@@ -7,7 +7,7 @@ use lib.ListN.{length, take, drop}
 use borrow.Author.Tests.{le-leb, lt-leb}
 use Rattle.ground.specs.Refusal.{wrong, right}
 use Rattle.ground.specs.Limits.{longestText}
-use Rattle.lines.specs.Lines.{linesOf, lineAt, pastLine}
+use Rattle.texts.specs.Lines.{linesOf, lineAt, pastLine}
 use Rattle.lines.specs.Reading.{headingOf}
 use Rattle.lines.specs.declared.reading.Heading.{Heading}
 use Rattle.orders.proofs.Walking.{begun-left}

@@ -8,7 +8,7 @@ use lib.ListN.{length, length-append}
 use native.Mathlib.Omega.{arith}
 use Rattle.ground.specs.Refusal.{Or, Read, wrong, right, _>>=_}
 use Rattle.ground.proofs.Refusal.{never-right, same-right, same-wrong}
-use Rattle.lines.specs.Meaning.{joined}
+use Rattle.texts.specs.Meaning.{joined}
 use Rattle.plans.specs.Judging.{faultAt, through}
 use Rattle.plans.specs.declared.Fault.{Fault}
 

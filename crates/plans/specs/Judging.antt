@@ -7,7 +7,7 @@ use lib.Dec.{leb, ltb, eqb}
 use Rattle.ground.specs.Refusal.{Or, Read, wrong, right, check, _>>=_, _>>_}
 use Rattle.ground.specs.Range.{within}
 use Rattle.ground.specs.Limits.{longestText}
-use Rattle.lines.specs.Lines.{linesOf, lineAt, pastLine}
+use Rattle.texts.specs.Lines.{linesOf, lineAt, pastLine}
 use Rattle.lines.specs.Reading.{headingOf, orderOf, loadOf}
 use Rattle.lines.specs.Writing.{firstOrderLine}
 use Rattle.lines.specs.declared.reading.Heading.{Heading}

@@ -7,10 +7,11 @@ use mathlib.Core.List.{List, [], _∷_, _++_, map}
 use lib.ListN.{length}
 use Rattle.ground.specs.Refusal.{right}
 use Rattle.ground.specs.Limits.{longestText, mostOrders}
-use Rattle.lines.specs.Lines.{linesOf, lineAt}
+use Rattle.texts.specs.Lines.{linesOf, lineAt}
 use Rattle.lines.specs.Reading.{headingOf, orderOf, loadOf}
 use Rattle.lines.specs.Writing.{firstOrderLine}
-use Rattle.lines.specs.Meaning.{joined, HeadingFault, OrderFault, LoadFault}
+use Rattle.texts.specs.Meaning.{joined}
+use Rattle.lines.specs.Meaning.{HeadingFault, OrderFault, LoadFault}
 use Rattle.lines.specs.declared.reading.Heading.{Heading}
 use Rattle.lines.specs.declared.reading.Order.{Order}
 use Rattle.lines.specs.declared.reading.Load.{Load}

@@ -10,7 +10,7 @@ ghost use lib.ListN.{length, getD, drop};
 ghost use Rattle.ground.specs.Refusal.{wrong, right, numberOf};
 ghost use Rattle.ground.specs.Range.{within};
 ghost use Rattle.ground.specs.Limits.{mostOrders, longestText};
-ghost use Rattle.lines.specs.Lines.{linesOf, lineAt};
+ghost use Rattle.texts.specs.Lines.{linesOf, lineAt};
 ghost use Rattle.lines.specs.Reading.{headingOf};
 ghost use Rattle.lines.specs.Writing.{firstOrderLine};
 ghost use Rattle.book.specs.Taking.{told};
@@ -29,9 +29,9 @@ use lines::reading::OrderRead;
 use lines::reading::read_heading;
 use lines::reading::read_load;
 use lines::reading::read_order;
-use lines::walk::line_at;
-use lines::walk::line_end;
 use lines::writing::FIRST_ORDER_LINE;
+use texts::line_at;
+use texts::line_end;
 
 // How many orders a list can have, and so how many loads a plan.
 const ORDERS: usize = MOST_ORDERS as usize;

@@ -6,7 +6,7 @@ ghost use lib.ListN.{length};
 ghost use Rattle.ground.specs.Refusal.{right};
 ghost use Rattle.ground.specs.Buffer.{fitted, lengthOf, bufferAfter};
 ghost use Rattle.hours.specs.Writing.{asLength};
-ghost use Rattle.lines.specs.Fields.{tab};
+ghost use Rattle.fields.specs.Fields.{tab};
 ghost use Rattle.pieces.specs.Placing.{placed, behind, stopped, Put};
 ghost use Rattle.orders.specs.Steps.{lineRoom};
 ghost use Rattle.plans.specs.Printing.{textWord, judgementLine};

@@ -2,7 +2,7 @@
 use mathlib.Core.Path.{_≡_, sym, _∙_}
 use native.Mathlib.Omega.{arith}
 use Rattle.ground.specs.Refusal.{wrong}
-use Rattle.lines.specs.Lines.{lineAt}
+use Rattle.texts.specs.Lines.{lineAt}
 use Rattle.lines.specs.Reading.{headingOf}
 use Rattle.plans.proofs.Texts.{list-too-long, plan-too-long, first-line-faulty, first-line-reads}
 use borrow.Author.Needs.{needs}

@@ -6,7 +6,7 @@ use lib.ListN.{length, take}
 use native.Mathlib.Omega.{arith}
 use borrow.Author.Needs.{needs}
 use mathlib.Core.Logic.{⊎-elim}
-use Rattle.lines.specs.Lines.{lineAt}
+use Rattle.texts.specs.Lines.{lineAt}
 use Rattle.plans.specs.Judging.{overlapsAny}
 use Rattle.plans.specs.Steps.{Loaded}
 use Rattle.plans.proofs.Going.{moves-on, ends-inside}

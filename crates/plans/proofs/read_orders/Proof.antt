@@ -7,7 +7,7 @@ use borrow.Author.Needs.{needs}
 use lib.ListN.{length, set, length-set}
 use Rattle.ground.specs.Refusal.{wrong}
 use Rattle.ground.specs.Limits.{mostOrders}
-use Rattle.lines.specs.Lines.{lineAt}
+use Rattle.texts.specs.Lines.{lineAt}
 use Rattle.plans.specs.Steps.{Noted}
 use Rattle.plans.proofs.Going.{moves-on, ends-inside, part-is-line}
 use Rattle.plans.proofs.Orders.{Kept, ordersLeft, ordersOf, standing, note-kept, order-stands, order-stops, orders-stand}

@@ -4,11 +4,11 @@ use mathlib.Core.Path.{_≡_, sym, _∙_}
 use borrow.Author.Needs.{needs}
 use Rattle.ground.specs.Refusal.{right, _>>=_}
 use Rattle.ground.specs.Limits.{mostChambers, longestRun}
-use Rattle.lines.specs.Fields.{field}
+use Rattle.fields.specs.Fields.{field}
 use Rattle.lines.specs.Reading.{headingOf, plainWithin, hourWithin, steamAt}
 use Rattle.lines.specs.declared.reading.Heading.{Heading}
 use Rattle.lines.specs.Steps.{asThree}
-use Rattle.lines.proofs.Splitting.{field-later}
+use Rattle.fields.proofs.Splitting.{field-later}
 use Rattle.lines.proofs.LineReading.{shape-failed, shape-tested, made-of-line}
 use Rattle.lines.proofs.reading.read_heading.Statement.{statement}
 use Rattle.lines.proofs.reading.read_heading.Tie as tie

@@ -5,11 +5,11 @@ use borrow.Author.Needs.{needs}
 use Rattle.ground.specs.Refusal.{right, _>>=_}
 use Rattle.hours.specs.Classes.{comma}
 use Rattle.hours.specs.Reading.{hourOf, plainOf}
-use Rattle.lines.specs.Fields.{field}
+use Rattle.fields.specs.Fields.{field}
 use Rattle.lines.specs.Reading.{loadOf, plainWithin}
 use Rattle.lines.specs.declared.reading.Load.{Load}
 use Rattle.lines.specs.Steps.{asThree}
-use Rattle.lines.proofs.Splitting.{field-later}
+use Rattle.fields.proofs.Splitting.{field-later}
 use Rattle.lines.proofs.LineReading.{shape-failed, shape-tested, made-of-line, any-hour, any-plain}
 use Rattle.lines.proofs.reading.read_load.Statement.{statement}
 use Rattle.lines.proofs.reading.read_load.Tie as tie

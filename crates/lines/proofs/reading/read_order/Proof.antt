@@ -5,11 +5,11 @@ use borrow.Author.Needs.{needs}
 use Rattle.ground.specs.Refusal.{right, _>>=_}
 use Rattle.hours.specs.Classes.{comma}
 use Rattle.hours.specs.Reading.{hourOf}
-use Rattle.lines.specs.Fields.{field}
+use Rattle.fields.specs.Fields.{field}
 use Rattle.lines.specs.Reading.{orderOf, plainWithin, lastGrower}
 use Rattle.lines.specs.declared.reading.Order.{Order}
 use Rattle.lines.specs.Steps.{asThree}
-use Rattle.lines.proofs.Splitting.{field-later}
+use Rattle.fields.proofs.Splitting.{field-later}
 use Rattle.lines.proofs.LineReading.{shape-failed, shape-tested, made-of-line, any-hour}
 use Rattle.lines.proofs.reading.read_order.Statement.{statement}
 use Rattle.lines.proofs.reading.read_order.Tie as tie

@@ -7,7 +7,7 @@ use native.Mathlib.Omega.{arith}
 use borrow.Author.Needs.{needs}
 use Rattle.hours.specs.Classes.{comma}
 use Rattle.hours.specs.Writing.{hourText}
-use Rattle.lines.specs.Lines.{lineEnd}
+use Rattle.texts.specs.Lines.{lineEnd}
 use Rattle.lines.proofs.PlanLine.{Parted, number-fits, number-room, rest-room, number-and-rest}
 use Rattle.lines.proofs.writing.put_chamber_and_start.Statement.{statement}
 use Rattle.lines.proofs.writing.put_chamber_and_start.Tie as tie

@@ -8,7 +8,7 @@ use native.Mathlib.Omega.{arith}
 use borrow.Author.Needs.{needs}
 use Rattle.ground.specs.Digits.{lastDigits, spelled}
 use Rattle.ground.proofs.Digits.{last-digits-spelled}
-use Rattle.lines.specs.Fields.{tab}
+use Rattle.fields.specs.Fields.{tab}
 use Rattle.lines.proofs.PlanLine.{byte-behind}
 use Rattle.lines.proofs.writing.put_number.Statement.{statement}
 use Rattle.lines.proofs.writing.put_number.Tie as tie

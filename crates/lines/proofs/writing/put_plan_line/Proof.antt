@@ -8,8 +8,8 @@ use borrow.Author.Needs.{needs}
 use Rattle.ground.specs.Digits.{spelled}
 use Rattle.hours.specs.Classes.{comma}
 use Rattle.hours.specs.Writing.{hourText}
-use Rattle.lines.specs.Lines.{lineEnd}
-use Rattle.lines.specs.Fields.{tab}
+use Rattle.texts.specs.Lines.{lineEnd}
+use Rattle.fields.specs.Fields.{tab}
 use Rattle.lines.proofs.PlanLine.{Parted, number-fits, number-room, rest-room, number-and-rest, length-of-text, text-in-two}
 use Rattle.lines.proofs.writing.put_plan_line.Statement.{statement}
 use Rattle.lines.proofs.writing.put_plan_line.Tie as tie

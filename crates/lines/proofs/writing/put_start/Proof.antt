@@ -12,7 +12,7 @@ use Rattle.ground.proofs.Buffer.{onto-all}
 use Rattle.hours.specs.Classes.{comma}
 use Rattle.hours.specs.Writing.{hourText, hourWritten}
 use Rattle.hours.proofs.Writing.{written-exactly}
-use Rattle.lines.specs.Lines.{lineEnd}
+use Rattle.texts.specs.Lines.{lineEnd}
 use Rattle.lines.proofs.PlanLine.{byte-behind}
 use Rattle.lines.proofs.writing.put_start.Statement.{statement}
 use Rattle.lines.proofs.writing.put_start.Tie as tie

@@ -2,7 +2,7 @@
 use mathlib.Core.Path.{_≡_}
 use native.Mathlib.Omega.{arith}
 use Rattle.ground.specs.Refusal.{wrong}
-use Rattle.lines.specs.Lines.{lineAt}
+use Rattle.texts.specs.Lines.{lineAt}
 use Rattle.lines.specs.Reading.{headingOf}
 use Rattle.orders.proofs.Beginning.{too-long, heading-right, heading-wrong, first-line-refused}
 use borrow.Author.Needs.{needs}

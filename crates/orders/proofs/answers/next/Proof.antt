@@ -1,7 +1,7 @@
 -- `next` goes by what the line reads as.
 use mathlib.Core.Path.{_≡_}
 use Rattle.ground.specs.Refusal.{wrong}
-use Rattle.lines.specs.Lines.{lineAt}
+use Rattle.texts.specs.Lines.{lineAt}
 use Rattle.lines.specs.Reading.{orderOf}
 use borrow.Author.Needs.{needs}
 use Rattle.orders.proofs.answers.next.Statement.{statement}

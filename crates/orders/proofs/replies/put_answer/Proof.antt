@@ -5,7 +5,7 @@ use borrow.Author.Needs.{needs}
 use borrow.Author.Tests.{leb-true}
 use Rattle.ground.specs.Limits.{lastHour}
 use Rattle.ground.specs.Text.{bytes}
-use Rattle.lines.specs.Lines.{lineEnd}
+use Rattle.texts.specs.Lines.{lineEnd}
 use Rattle.pieces.specs.Placing.{stopped}
 use Rattle.pieces.proofs.Placing.{put-roomy}
 use Rattle.orders.proofs.Replying.{no-piece}

@@ -3,7 +3,7 @@ use lib.ListN.{length-append}
 use native.Mathlib.Omega.{arith}
 use borrow.Author.Needs.{needs}
 use Rattle.ground.specs.Digits.{spelled}
-use Rattle.lines.specs.Fields.{tab}
+use Rattle.fields.specs.Fields.{tab}
 use Rattle.pieces.specs.Placing.{Put, stopped}
 use Rattle.pieces.proofs.Placing.{put-roomy, put-length, put-both}
 use Rattle.orders.proofs.Replying.{number-short, reply-pieces}

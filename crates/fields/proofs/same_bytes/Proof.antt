@@ -1,0 +1,70 @@
+-- `same_bytes` goes byte after byte: what is left of the two is the same exactly when all is.
+use Prim.Native.Nat.{_-_, _≤_}
+use mathlib.Core.Path.{_≡_, sym, _∙_}
+use native.Mathlib.Omega.{arith}
+use borrow.Author.Needs.{needs}
+use lib.ListN.{length, drop}
+use Rattle.fields.specs.Fields.{sameBytes}
+use Rattle.fields.proofs.Words.{lengths-differ, same-step, same-stops, same-end}
+use Rattle.fields.proofs.same_bytes.Statement.{statement}
+use Rattle.fields.proofs.same_bytes.Tie as tie
+
+abbrev Inv-loop : tie.InvT-loop
+Inv-loop one other at₀ at = (at ≤ length one) × (length one ≡ length other) × (sameBytes (drop at one) (drop at other) ≡ sameBytes one other)
+
+abbrev μ-loop : tie.MeasureT-loop
+μ-loop one other at₀ at = length one - at
+
+returns : tie.Need-returns Inv-loop μ-loop
+returns c = let a = c .before .args in sym (lengths-differ (a .one .now) (a .other .now) (λ same. omega arith))
+
+loop-holds : tie.Need-loop-holds Inv-loop μ-loop
+loop-holds c = search needs
+
+shared-slice-read-if2 : tie.Need-shared-slice-read-if2 Inv-loop μ-loop
+shared-slice-read-if2 c = search needs
+
+shared-slice-read-if2-2 : tie.Need-shared-slice-read-if2-2 Inv-loop μ-loop
+shared-slice-read-if2-2 c = search needs
+
+returns-2 : tie.Need-returns-2 Inv-loop μ-loop
+returns-2 c =
+    let l = c .before .before .before .before in
+    let a = l .before .before .args in
+    sym (sym (l .loop .inv .2) ∙ same-stops (a .one .now) (a .other .now) (l .loop .at) (omega arith) (omega arith) (c .if2 .taken))
+
+add-at : tie.Need-add-at Inv-loop μ-loop
+add-at c = search needs
+
+loop-less : tie.Need-loop-less Inv-loop μ-loop
+loop-less c = search needs
+
+loop-again : tie.Need-loop-again Inv-loop μ-loop
+loop-again c =
+    let l = c .before .before .before .before in
+    let a = l .before .before .args in (
+      omega arith,
+      l .loop .inv .1,
+      sym (same-step (a .one .now) (a .other .now) (l .loop .at) (omega arith) (omega arith) (c .if2 .left)) ∙ l .loop .inv .2,
+    )
+
+returns-3 : tie.Need-returns-3 Inv-loop μ-loop
+returns-3 c =
+    let l = c .before in
+    sym (sym (l .loop .inv .2) ∙ same-end (l .before .before .args .one .now) (l .before .before .args .other .now) (l .loop .at) (omega arith) (omega arith))
+
+pub same-bytes-spec : {M : Type 1} → statement M
+same-bytes-spec =
+    tie.close
+    (tie.spec
+    Inv-loop
+    μ-loop
+    returns
+    loop-holds
+    shared-slice-read-if2
+    shared-slice-read-if2-2
+    returns-2
+    add-at
+    loop-less
+    loop-again
+    returns-3)

@@ -1,0 +1,54 @@
+-- Laws of the lines of a text. Assumes nothing.
+use Prim.Native.Nat.{ℕ, _+_, _-_, _≤_, _<_}
+use mathlib.Core.Path.{_≡_}
+use mathlib.Core.Bool.{Bool, true, false, cond}
+use mathlib.Core.List.{List, [], _∷_}
+use lib.ListN.{length, getD, take, drop, length-drop}
+use lib.Seq.{drop-cons}
+use lib.Dec.{eqb}
+use native.Mathlib.Numerals.{add-one}
+use native.Mathlib.Omega.{arith}
+use borrow.Author.Tests.{eq-eqb, ne-eqb}
+use Rattle.texts.specs.Lines.{lineEnd, lineLength, lineAt, pastLine}
+
+-- a line is no longer than its text
+at-most : (ended : Bool) (more most : ℕ) → 1 ≤ most → more ≤ most → cond ended 1 more ≤ most
+at-most true more most one rest = one
+at-most false more most one rest = rest
+
+pub line-within : (text : List ℕ) → lineLength text ≤ length text
+unfolding lineLength
+line-within [] = omega arith
+line-within (byte ∷ rest) = at-most (eqb byte lineEnd) _ _ (omega arith) (omega (arith, line-within rest))
+
+-- at or past the end of the text none is left
+pub none-left : (text : List ℕ) (at : ℕ) → length text ≤ at → lineLength (drop at text) ≡ 0
+none-left text at past = omega (arith, line-within (drop at text), length-drop at text)
+
+module _ (text : List ℕ) (at : ℕ) where
+  pub past-none : length text ≤ at → pastLine text at ≡ at
+  unfolding pastLine
+  past-none past = omega (arith, none-left text at past)
+
+  -- a line end stands here
+  pub past-end : at < length text → getD text at 0 ≡ lineEnd → pastLine text at ≡ at + 1
+  unfolding pastLine lineLength
+  past-end inside here = rw (drop-cons text at 0 inside, eq-eqb _ _ here)
+
+  -- another byte stands here
+  pub past-other : at < length text → (getD text at 0 ≡ lineEnd → ⊥) → pastLine text at ≡ pastLine text (at + 1)
+  unfolding pastLine lineLength
+  past-other inside other = rw (drop-cons text at 0 inside, ne-eqb _ _ other, add-one) (omega arith)
+
+  pub not-before : at ≤ pastLine text at
+  unfolding pastLine
+  not-before = omega arith
+
+  -- the part up to the place past the line is the line
+  pub line-is : take (pastLine text at - at) (drop at text) ≡ lineAt text at
+  unfolding pastLine lineAt
+  line-is = let size : at + lineLength (drop at text) - at ≡ lineLength (drop at text) = omega arith in rw size
+
+  pub line-none : length text < pastLine text at → [] ≡ lineAt text at
+  unfolding pastLine lineAt
+  line-none over = let none : lineLength (drop at text) ≡ 0 = omega (arith, line-within (drop at text), length-drop at text) in rw none

@@ -1,0 +1,3 @@
+-- What the contracts of this room cite, and what they are proved to mean.
+pub mod Lines
+pub mod Meaning

@@ -1,0 +1,64 @@
+// A text as lines: the line at a place, and the walk that hands out one line after another.
+// Any bytes and any place may come. Assumes nothing.
+ghost use mathlib.Core.Path.{_≡_};
+ghost use Rattle.texts.specs.Lines.{lineAt, pastLine};
+
+// The place past the line that starts at a place; the place itself where none is left.
+pub fn line_end(text: &[u8], at: usize) -> usize
+    ensures { λ r. ⌜ r ≡ pastLine (now (text .entry)) at ⌝ }
+{
+    let mut end = at;
+    while end < text.len() {
+        if text[end] == b'\n' {
+            return end + 1;
+        }
+        end += 1;
+    }
+    end
+}
+
+// The line that starts at a place, its end included where there is one; empty where none is left.
+pub fn line_at<'a>(text: &'a [u8], at: usize) -> &'a [u8]
+    ensures { λ r. ⌜ now r ≡ lineAt (now (text .entry)) at ⌝ }
+{
+    let end = line_end(text, at);
+    if end <= text.len() {
+        return &text[at..end];
+    }
+    &text[..0]
+}
+
+// A walk through a text: the text, and the place reached. It goes on from whatever place it holds.
+pub struct Walk<'a> {
+    pub text: &'a [u8],
+    pub at: usize,
+}
+
+// A line that was handed out, empty where none is left, and the walk moved past it.
+pub struct Handed<'a> {
+    pub line: &'a [u8],
+    pub walk: Walk<'a>,
+}
+
+// A walk from the top of a text.
+pub fn start<'a>(text: &'a [u8]) -> Walk<'a>
+    ensures { λ r. ⌜ (r .text ≡ text .entry) × (r .at ≡ 0) ⌝ }
+{
+    Walk { text, at: 0 }
+}
+
+// The next line, and the walk moved past it.
+pub fn next<'a>(walk: Walk<'a>) -> Handed<'a>
+    ensures { λ r. ⌜ (now (r .line) ≡ lineAt (now (walk .entry .text)) (walk .entry .at))
+        × (r .walk .text ≡ walk .entry .text) × (r .walk .at ≡ pastLine (now (walk .entry .text)) (walk .entry .at)) ⌝ }
+{
+    let line = line_at(walk.text, walk.at);
+    let at = line_end(walk.text, walk.at);
+    Handed {
+        line,
+        walk: Walk {
+            text: walk.text,
+            at,
+        },
+    }
+}
