@@ -3,7 +3,7 @@
 use ground::LONGEST_TEXT;
 use hours::Written;
 use pieces::LINE_ROOM;
-use plans::printing::write_judgement;
+use replies::judgements::write_judgement;
 
 // Room for a text, and for one byte more, which tells that it is too long.
 const ROOM: usize = LONGEST_TEXT + 1;

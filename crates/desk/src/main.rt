@@ -5,9 +5,7 @@ ghost use Rattle.orders.specs.Answers.{progressPast};
 use book::Answer;
 use ground::LONGEST_TEXT;
 use hours::Written;
-use orders::answers;
-use orders::answers::Progress;
-use orders::replies;
+use orders::Progress;
 use pieces::LINE_ROOM;
 
 // Room for a list, and for one byte more, which tells that a text is too long.
@@ -38,7 +36,7 @@ fn pass_over_some() -> bool {
 
 // The reply to a whole text.
 fn reply(text: &[u8]) {
-    let begun = answers::begin(text);
+    let begun = orders::begin(text);
     let progress = begun.progress;
     if begun.refusal != 0 {
         print_answer(progress.line, Answer::Refused(begun.refusal));
@@ -61,7 +59,7 @@ fn go_through(text: &[u8], begun: Progress) {
 fn print_next(text: &[u8], progress: Progress) -> Progress
     ensures { λ r. ⌜ r ≡ progressPast (now (text .entry)) progress ⌝ }
 {
-    let step = answers::next(text, progress);
+    let step = orders::next(text, progress);
     let answer = step.answer;
     print_answer(progress.line, answer);
     step.progress

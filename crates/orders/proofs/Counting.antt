@@ -1,22 +1,19 @@
 -- What a book has counted past the lines of a list. Assumes nothing.
-use Prim.Native.Nat.{ℕ, suc, _+_}
+use Prim.Native.Nat.{ℕ, _+_}
 use mathlib.Core.Path.{_≡_, refl}
-use mathlib.Core.List.{List, [], _∷_, _++_}
-use lib.ListN.{length, length-append}
+use mathlib.Core.List.{List, [], _∷_}
+use lib.ListN.{length}
 use native.Mathlib.Omega.{arith}
 use Rattle.ground.specs.Refusal.{Read, wrong, right}
 use Rattle.lines.specs.Reading.{orderOf}
 use Rattle.lines.specs.declared.reading.Order.{Order}
 use Rattle.book.specs.Taking.{decided, nextBook, answerOf}
 use Rattle.book.specs.declared.Book.{Book}
-use Rattle.book.specs.declared.Answer.{Answer}
 use Rattle.book.specs.declared.Answer.the-variants.{Refused}
 use Rattle.book.specs.declared.Choice.{Choice}
 use Rattle.book.specs.declared.Choice.the-variants.{Nothing, Chamber}
 use Rattle.book.proofs.Promises.{refused-order-stays}
-use Rattle.orders.specs.Answers.{orderLines, answersFrom, bookAfter, decision, bookPast, refusalsIn, refusals, yesesIn, yeses, CleanList}
-use Rattle.orders.specs.Replies.{sumLine, numbered, repliesFrom}
-use Rattle.orders.proofs.Beginning.{opened-fresh-book}
+use Rattle.orders.specs.Answers.{answersFrom, bookAfter, decision, bookPast, refusalsIn, refusals, yesesIn, yeses}
 
 -- one order counts as taken unless it is refused, and as kept with a yes
 module _ (book : Book) where
@@ -50,33 +47,11 @@ unfolding bookAfter answersFrom yeses
 all-kept book [] = omega arith
 all-kept book (line ∷ lines) = omega (arith, line-kept book (orderOf line), all-kept (bookPast book (orderOf line)) lines)
 
--- every line has an answer, and every answer a reply
+-- every line has an answer
 pub answers-length : (book : Book) (lines : List (List ℕ)) → length (answersFrom book lines) ≡ length lines
 unfolding answersFrom
 answers-length book [] = refl
 answers-length book (line ∷ lines) = omega (arith, answers-length (bookPast book (orderOf line)) lines)
-
-numbered-length : (line : ℕ) (answers : List Answer) → length (numbered line answers) ≡ length answers
-unfolding numbered
-numbered-length line [] = refl
-numbered-length line (answer ∷ answers) = omega (arith, numbered-length (suc line) answers)
-
--- a reply for each line, and the sum
-pub replies-length : (line : ℕ) (book : Book) (lines : List (List ℕ)) → length (repliesFrom line book lines) ≡ suc (length lines)
-unfolding repliesFrom
-replies-length line book lines = simp length-append (omega (arith, numbered-length line (answersFrom book lines), answers-length book lines))
-
--- the sum of a clean list is the number of its orders and the number of its yeses
-pub clean-replies :
-    (text : List ℕ) (book : Book) → CleanList text book
-    → repliesFrom 2 book (orderLines text)
-    ≡ numbered 2 (answersFrom book (orderLines text)) ++ sumLine (length (orderLines text)) (yeses (answersFrom book (orderLines text))) ∷ []
-unfolding repliesFrom
-clean-replies text book clean =
-    let fresh = opened-fresh-book text book (clean .begun) in
-    let taken : bookAfter book (orderLines text) .taken ≡ length (orderLines text) = omega (arith, all-taken book (orderLines text), clean .unrefused, fresh .0) in
-    let kept : bookAfter book (orderLines text) .kept ≡ yeses (answersFrom book (orderLines text)) = omega (arith, all-kept book (orderLines text), fresh .1) in
-    rw (taken, kept)
 
 -- a refused line leaves the book as it stood
 pub refused-line-stays : (book : Book) (order : Read Order) (number : ℕ) → decision book order ≡ wrong number → bookPast book order ≡ book

@@ -1,14 +1,14 @@
 -- What this room promises, about the very definitions that its contracts cite. Each is a line over a law of this folder. Assumes nothing.
-use Prim.Native.Nat.{ℕ, suc, _≤_, _<_}
-use mathlib.Core.Path.{_≡_, refl, sym, ap, _∙_}
+use Prim.Native.Nat.{ℕ, _≤_, _<_}
+use mathlib.Core.Path.{_≡_, refl, sym, _∙_}
 use mathlib.Core.Logic.{_↔_}
-use mathlib.Core.List.{List, [], _∷_, _++_}
+use mathlib.Core.List.{List, [], _∷_}
 use lib.ListN.{length}
-use Rattle.ground.specs.Refusal.{Read, wrong, right}
+use Rattle.ground.specs.Refusal.{Read, wrong}
 use Rattle.ground.specs.Limits.{longestText}
 use Rattle.ground.specs.Outcome.{Single}
 use Rattle.ground.proofs.Outcome.{single-answer, single-value}
-use Rattle.texts.specs.Lines.{linesOf, lineLength, lineAt}
+use Rattle.texts.specs.Lines.{lineLength, lineAt}
 use Rattle.fields.specs.Fields.{isEnded, shapeOf}
 use Rattle.lines.specs.Reading.{headingOf, orderOf}
 use Rattle.lines.specs.Meaning.{HeadingFault}
@@ -17,14 +17,11 @@ use Rattle.book.specs.Taking.{told, answerOf}
 use Rattle.book.specs.declared.Book.{Book}
 use Rattle.book.specs.declared.Answer.the-variants.{Refused}
 use Rattle.book.proofs.Promises.{answer-told}
-use Rattle.orders.specs.Answers.{opening, orderLines, answersFrom, decision, bookPast, yeses, CleanList, begunBy, progressPast, Stepped}
-use Rattle.orders.specs.Replies.{sumLine, numbered, repliesBy, replyOf}
-use Rattle.orders.specs.Meaning.{GoneThrough}
-use Rattle.orders.specs.declared.answers.Progress.{Progress}
+use Rattle.orders.specs.Answers.{opening, answersFrom, decision, bookPast, begunBy, progressPast, Stepped}
+use Rattle.orders.specs.declared.Progress.{Progress}
 use Rattle.orders.proofs.Beginning as beginning
-use Rattle.orders.proofs.Walking as walking
+use Rattle.orders.proofs.Places as places
 use Rattle.orders.proofs.Counting as counting
-use Rattle.orders.proofs.ReplyText as replies
 
 -- 1b: a list is refused by 9 exactly when it is longer than 65,536 bytes
 pub refused-by-nine : (text : List ℕ) → (opening text ≡ wrong 9) ↔ (longestText < length text)
@@ -50,30 +47,9 @@ pub refused-line-goes-on :
     → answersFrom book (line ∷ lines) ≡ Refused number ∷ answersFrom book lines
 refused-line-goes-on = counting.refused-line-goes-on
 
--- going through a list that begins line by line, from its beginning to its end, gives the replies of its definition and no others
-pub gone-through-exactly :
-    (text : List ℕ) (book : Book) → opening text ≡ right book → (replies : List (List ℕ))
-    → GoneThrough text (begunBy text (opening text) .progress) replies ↔ (replies ≡ repliesBy text (opening text))
-gone-through-exactly = walking.gone-through-exactly
-
 -- while a line is left the place moves on, so that going through ends
 pub moves-on : (text : List ℕ) (progress : Progress) → progress .at < length text → progress .at < progressPast text progress .at
-moves-on = walking.moves-on
-
--- the lines of the whole reply are these replies
-pub reply-lines : (text : List ℕ) → linesOf (replyOf text) ≡ repliesBy text (opening text)
-reply-lines = replies.reply-lines
-
--- a list that begins has a reply for each line after the first, and the sum
-pub replies-counted : (text : List ℕ) (book : Book) → opening text ≡ right book → length (linesOf (replyOf text)) ≡ suc (length (orderLines text))
-replies-counted text book begun = ap length (reply-lines text ∙ ap (repliesBy text) begun) ∙ counting.replies-length 2 book (orderLines text)
-
--- the reply to a clean list: a line for each order, and the sum with the number of orders and the number of yeses
-pub clean-reply :
-    (text : List ℕ) (book : Book) → CleanList text book
-    → linesOf (replyOf text)
-    ≡ numbered 2 (answersFrom book (orderLines text)) ++ sumLine (length (orderLines text)) (yeses (answersFrom book (orderLines text))) ∷ []
-clean-reply text book clean = reply-lines text ∙ ap (repliesBy text) (clean .begun) ∙ counting.clean-replies text book clean
+moves-on = places.moves-on
 
 -- 1d: each public function's contract admits a single outcome
 pub begin-single : (text : List ℕ) → Single (λ outcome. outcome ≡ begunBy text (opening text))

@@ -17,9 +17,9 @@ use Rattle.book.specs.declared.Book.{Book}
 use Rattle.book.specs.declared.Choice.{Choice}
 use Rattle.book.specs.declared.Answer.{Answer}
 use Rattle.book.specs.declared.Answer.the-variants.{Yes, No, Refused}
-use Rattle.orders.specs.declared.answers.Progress.{Progress}
-use Rattle.orders.specs.declared.answers.Begun.{Begun}
-use Rattle.orders.specs.declared.answers.Step.{Step}
+use Rattle.orders.specs.declared.Progress.{Progress}
+use Rattle.orders.specs.declared.Begun.{Begun}
+use Rattle.orders.specs.declared.Step.{Step}
 
 -- a list begins: 9 for "longer than 65,536 bytes", then what is wrong with its first line, else a fresh book; an empty text has an empty first line, which is refused by 1
 unfoldable pub opening : List ℕ → Read Book

@@ -1,5 +1,2 @@
--- What the contracts of this room cite, and what they are proved to mean.
+-- What the contracts of this room cite.
 pub mod Answers
-pub mod Replies
-pub mod Meaning
-pub mod Steps

@@ -5,8 +5,6 @@ pub mod Loading
 pub mod Orders
 pub mod Planning
 pub mod Texts
-pub mod JudgementLine
-pub mod PrintPromises
 pub mod Each
 pub mod Through
 pub mod Loads

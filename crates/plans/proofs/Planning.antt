@@ -21,7 +21,7 @@ use Rattle.lines.specs.Writing.{firstOrderLine}
 use Rattle.lines.specs.declared.reading.Heading.{Heading}
 use Rattle.lines.specs.declared.reading.Load.{Load}
 use Rattle.texts.proofs.Promises.{walk-on}
-use Rattle.orders.proofs.Walking.{lines-within}
+use Rattle.texts.proofs.WholeText.{lines-within}
 use Rattle.plans.specs.Judging.{through, PlanKnown, standsIn, overlap, overlapsAny, loadChecked, noteLoad, planJudged, loadsCounted}
 use Rattle.plans.specs.Steps.{loadMarked, loadRefusal, Loaded}
 use Rattle.plans.specs.declared.LoadNoted.{LoadNoted}

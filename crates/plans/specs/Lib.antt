@@ -1,5 +1,4 @@
 -- What the contracts of this room cite, and what they are proved to mean.
 pub mod Judging
-pub mod Printing
 pub mod Meaning
 pub mod Steps

@@ -1,7 +1,5 @@
 // The checker: an order list and a plan, made by whoever, are judged.
 // Any bytes may come. Assumes nothing.
-pub mod printing;
-
 ghost use mathlib.Core.Path.{_≡_};
 ghost use mathlib.Core.Bool.{true, false, cond};
 ghost use mathlib.Core.List.{[]};

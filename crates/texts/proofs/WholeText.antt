@@ -92,3 +92,15 @@ module _ (text : List ℕ) (at : ℕ) where
   pub walk-done : length text ≤ at → (linesOf (drop at text) ≡ []) × (lineAt text at ≡ []) × (pastLine text at ≡ at)
   unfolding lineAt linesOf lineLength
   walk-done past = (rw (drop-of-length-le text past), rw (drop-of-length-le text past), past-none text at past)
+
+-- a text has no more lines than bytes
+before-longer : (byte : ℕ) (lines : List (List ℕ)) → length (before byte lines) ≤ suc (length lines)
+before-longer byte [] = omega arith
+before-longer byte (line ∷ lines) = omega arith
+
+pub lines-within : (text : List ℕ) → length (linesOf text) ≤ length text
+unfolding linesOf
+lines-within [] = omega arith
+lines-within (byte ∷ rest) =
+    by-test (eqb byte lineEnd) (λ same. rw same (omega (arith, lines-within rest)))
+    (λ other. rw other (omega (arith, lines-within rest, before-longer byte (linesOf rest))))

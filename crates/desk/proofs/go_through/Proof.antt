@@ -4,7 +4,7 @@ use mathlib.Core.Path.{ap}
 use lib.ListN.{length}
 use native.Mathlib.Omega.{arith}
 use borrow.Author.Needs.{needs}
-use Rattle.orders.specs.declared.answers.Progress.{Progress}
+use Rattle.orders.specs.declared.Progress.{Progress}
 use Rattle.orders.proofs.Promises.{moves-on}
 use Rattle.desk.proofs.go_through.Statement.{statement}
 use Rattle.desk.proofs.go_through.Tie as tie
