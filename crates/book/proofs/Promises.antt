@@ -1,7 +1,7 @@
 -- What this room promises, about the very definitions that its contracts cite. Each is a line over a law of this folder. Assumes nothing.
 use Prim.Native.Nat.{ℕ, _+_, _≤_, _<_}
 use mathlib.Core.Path.{_≡_, refl, sym, ap, _∙_}
-use mathlib.Core.Bool.{true, _&&_}
+use mathlib.Core.Bool.{_&&_}
 use mathlib.Core.Logic.{_⊎_, _↔_}
 use mathlib.Core.List.{List}
 use native.Mathlib.Omega.{arith}
@@ -12,12 +12,10 @@ use Rattle.ground.specs.Outcome.{Injective, Single}
 use Rattle.ground.proofs.Tests.{by-test, never-both, both, first-of, second-of}
 use Rattle.ground.proofs.Range.{within-from, within-low, within-high}
 use Rattle.ground.proofs.Outcome.{single-answer, single-value}
-use Rattle.book.specs.Soundness.{allUpTo, allMet, soundness, isSound, freshBook, opened}
-use Rattle.book.specs.BestFit.{offer, bestFit}
+use Rattle.book.specs.Soundness.{freshBook, opened}
 use Rattle.book.specs.Taking.{decided, nextBook, Word, yes, no, refused, Told, told, answerOf, Answered}
 use Rattle.book.specs.Meaning.{Sized, Sound, Admitted, hourFor, BestFitting, NoneFits}
 use Rattle.book.specs.History.{Order, bookAfter, loadsOf, Completes, SourceRejects, LowestSourceChoice}
-use Rattle.book.specs.Cases.{markedCases, unmarkedCases, holds, allHold}
 use Rattle.book.specs.declared.Book.{Book}
 use Rattle.book.specs.declared.Answer.the-variants.{Yes, No, Refused}
 use Rattle.book.specs.declared.Choice.the-variants.{Nothing, Chamber}
@@ -178,12 +176,3 @@ take-single book ready due one other p q =
     let answers : one .answer ≡ other .answer = single-answer told answer-told (told (answerOf (decided book ready due))) (one .answer) (other .answer) (p .said) (q .said) in
     let books : one .book ≡ other .book = p .next ∙ sym (q .next) in
     λ i. record { answer = answers i; book = books i }
-
--- the book cases of "Either side of the line"
-pub marked-cases-hold : allHold markedCases ≡ true
-unfolding allHold holds decided isSound soundness allMet allUpTo bestFit offer markedCases
-marked-cases-hold = refl
-
-pub unmarked-cases-hold : allHold unmarkedCases ≡ true
-unfolding allHold holds decided isSound soundness allMet allUpTo bestFit offer unmarkedCases
-unmarked-cases-hold = refl

@@ -4,5 +4,4 @@ pub mod BestFit
 pub mod Taking
 pub mod Meaning
 pub mod History
-pub mod Cases
 pub mod Settling

@@ -1,7 +1,7 @@
 // Hours as text: fields that read and fields that do not, every byte alone, and hours written with room and without.
 use crate::print;
 use hours::HourRead;
-use hours::Written;
+use writer::Written;
 
 pub(crate) fn all() {
     read_fields();
@@ -106,7 +106,7 @@ fn write(hour: u32, room: usize) {
 
 // An hour, the room that it is given, what the buffer holds then, and the answer.
 fn write_to(hour: u32, buffer: &mut [u8]) {
-    let written = hours::write_hour(hour, buffer);
+    let written = writer::write_hour(hour, buffer);
     io::write_all(1, b"write\t");
     io::print_decimal(1, hour as u64);
     io::write_all(1, b"\t");

@@ -1,12 +1,12 @@
 // Lines: texts walked through, first lines, orders and plan lines read, and plan lines written with room and without.
 use crate::print;
-use hours::Written;
 use lines::reading;
 use lines::reading::HeadingRead;
 use lines::reading::LoadRead;
 use lines::reading::OrderRead;
 use lines::writing;
 use texts;
+use writer::Written;
 
 pub(crate) fn all() {
     walk_texts();

@@ -4,9 +4,9 @@ ghost use mathlib.Core.Path.{_≡_};
 ghost use Rattle.orders.specs.Answers.{progressPast};
 use book::Answer;
 use ground::LONGEST_TEXT;
-use hours::Written;
 use orders::Progress;
 use pieces::LINE_ROOM;
+use writer::Written;
 
 // Room for a list, and for one byte more, which tells that a text is too long.
 const ROOM: usize = LONGEST_TEXT + 1;

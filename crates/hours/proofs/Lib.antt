@@ -2,5 +2,4 @@
 pub mod Classes
 pub mod Scanning
 pub mod Spelling
-pub mod Writing
 pub mod Promises

@@ -2,5 +2,3 @@
 pub mod Spelling
 pub mod Classes
 pub mod Reading
-pub mod Writing
-pub mod Cases

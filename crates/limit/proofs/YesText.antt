@@ -10,7 +10,7 @@ use Rattle.ground.specs.Refusal.{right}
 use Rattle.ground.proofs.Digits.{spelled-most}
 use Rattle.ground.proofs.Tests.{by-test}
 use Rattle.hours.specs.Classes.{comma}
-use Rattle.hours.proofs.Writing.{length-of-text}
+use Rattle.writer.proofs.Writing.{length-of-text}
 use Rattle.texts.specs.Lines.{lineEnd, linesOf}
 use Rattle.fields.specs.Fields.{isNone, isEnded}
 use Rattle.lines.specs.Reading.{loadOf}

@@ -20,7 +20,7 @@ use Rattle.ground.proofs.Range.{within-from, within-low, within-high}
 use Rattle.ground.proofs.Writing as writing
 use Rattle.ground.proofs.Buffer.{onto-all, onto-byte, onto-part}
 use Rattle.hours.specs.Classes.{comma}
-use Rattle.hours.specs.Writing.{hourText, hourWritten}
+use Rattle.writer.specs.Writing.{hourText, hourWritten}
 use Rattle.texts.specs.Lines.{lineEnd}
 use Rattle.fields.specs.Fields.{tab}
 use Rattle.lines.specs.Writing.{firstOrderLine, lastOrderLine, InRange, inRange, planText, planWritten}

@@ -11,9 +11,9 @@ use Rattle.ground.specs.Outcome.{Injective, Single}
 use Rattle.ground.proofs.Refusal.{never-right, same-right, same-wrong}
 use Rattle.ground.proofs.Buffer.{refused-stays, written-rest}
 use Rattle.ground.proofs.Outcome.{single-answer, single-writing}
-use Rattle.hours.specs.Writing.{asLength}
-use Rattle.hours.specs.declared.Written.{Written}
-use Rattle.hours.proofs.Promises.{length-told}
+use Rattle.writer.specs.Writing.{asLength}
+use Rattle.writer.specs.declared.Written.{Written}
+use Rattle.writer.proofs.Promises.{length-told}
 use Rattle.fields.specs.Fields.{field}
 use Rattle.lines.specs.Reading.{lastGrower, headingOf, orderOf, loadOf, asHeading, asOrder, asLoad}
 use Rattle.lines.specs.Writing.{InRange, planText, planWritten}

@@ -17,9 +17,9 @@ use Rattle.ground.proofs.Digits.{digit-low, last-is-digit, spelled-digits, spel
 use Rattle.ground.proofs.Buffer.{written-front}
 use Rattle.hours.specs.Classes.{comma}
 use Rattle.hours.specs.Reading.{plainOf}
-use Rattle.hours.specs.Writing.{hourText}
+use Rattle.writer.specs.Writing.{hourText}
 use Rattle.hours.proofs.Promises.{plain-exactly}
-use Rattle.hours.proofs.Writing.{reads-back}
+use Rattle.writer.proofs.Writing.{reads-back}
 use Rattle.texts.specs.Lines.{lineEnd}
 use Rattle.fields.specs.Fields.{tab, isEnded, fieldsOf, shapeOf}
 use Rattle.lines.specs.Reading.{ranged, plainWithin, loadOf}

@@ -8,7 +8,7 @@ use Rattle.ground.specs.Range.{within}
 use Rattle.ground.specs.Limits.{lastHour, mostChambers, mostOrders}
 use Rattle.ground.specs.Digits.{spelled}
 use Rattle.hours.specs.Classes.{comma}
-use Rattle.hours.specs.Writing.{hourText, hourWritten}
+use Rattle.writer.specs.Writing.{hourText, hourWritten}
 use Rattle.texts.specs.Lines.{lineEnd}
 use Rattle.fields.specs.Fields.{tab}
 

@@ -9,18 +9,18 @@ ghost use Rattle.ground.specs.Limits.{lastHour};
 ghost use Rattle.ground.specs.Digits.{spelled};
 ghost use Rattle.ground.specs.Buffer.{fitted, lengthOf, bufferAfter};
 ghost use Rattle.hours.specs.Classes.{comma};
-ghost use Rattle.hours.specs.Writing.{hourText, asLength};
+ghost use Rattle.writer.specs.Writing.{hourText, asLength};
 ghost use Rattle.texts.specs.Lines.{lineEnd};
 ghost use Rattle.fields.specs.Fields.{tab};
 ghost use Rattle.lines.specs.Writing.{inRange, planText, planWritten};
 use ground::LAST_HOUR;
 use ground::MOST_CHAMBERS;
 use ground::MOST_ORDERS;
-use hours::Written;
-use hours::digit_count;
-use hours::put_digits;
-use hours::write_hour;
-use hours::writing_refusal;
+use writer::Written;
+use writer::digit_count;
+use writer::put_digits;
+use writer::write_hour;
+use writer::writing_refusal;
 
 // The first line that an order can stand on: line 1 is no order.
 pub const FIRST_ORDER_LINE: u32 = 2;

@@ -12,8 +12,8 @@ use Rattle.ground.specs.Buffer.{onto, fitted, bufferAfter}
 use Rattle.ground.proofs.Tests.{by-test}
 use Rattle.ground.proofs.Buffer.{front-of-onto, rest-of-onto, length-of-onto, onto-all, onto-byte}
 use Rattle.hours.specs.Classes.{comma}
-use Rattle.hours.specs.Writing.{hourText, hourWritten}
-use Rattle.hours.proofs.Writing.{written-exactly}
+use Rattle.writer.specs.Writing.{hourText, hourWritten}
+use Rattle.writer.proofs.Writing.{written-exactly}
 use Rattle.pieces.specs.Placing.{hasRoom, placed, behind, Put, stopped, hourStopped}
 
 -- nothing written leaves the buffer

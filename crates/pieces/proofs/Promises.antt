@@ -13,9 +13,9 @@ use Rattle.ground.specs.Outcome.{Single}
 use Rattle.ground.proofs.Buffer.{refused-stays, written-rest}
 use Rattle.ground.proofs.Outcome.{single-writing}
 use Rattle.ground.proofs.Writing as writing
-use Rattle.hours.specs.Writing.{asLength}
-use Rattle.hours.specs.declared.Written.{Written}
-use Rattle.hours.proofs.Promises.{length-told}
+use Rattle.writer.specs.Writing.{asLength}
+use Rattle.writer.specs.declared.Written.{Written}
+use Rattle.writer.proofs.Promises.{length-told}
 use Rattle.pieces.specs.Placing.{placed, behind, stopped, hourStopped}
 use Rattle.pieces.proofs.Placing as placing
 

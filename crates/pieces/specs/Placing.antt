@@ -7,7 +7,7 @@ use lib.ListN.{length, take, drop}
 use lib.Dec.{leb}
 use Rattle.ground.specs.Limits.{lastHour}
 use Rattle.hours.specs.Classes.{comma}
-use Rattle.hours.specs.Writing.{hourText}
+use Rattle.writer.specs.Writing.{hourText}
 
 -- a text has room at a place of a buffer
 abbrev pub hasRoom : ℕ → List ℕ → List ℕ → Bool

@@ -7,13 +7,13 @@ ghost use lib.Dec.{ltb};
 ghost use Rattle.ground.specs.Refusal.{right};
 ghost use Rattle.ground.specs.Digits.{spelled};
 ghost use Rattle.ground.specs.Buffer.{fitted, lengthOf, bufferAfter};
-ghost use Rattle.hours.specs.Writing.{asLength};
+ghost use Rattle.writer.specs.Writing.{asLength};
 ghost use Rattle.pieces.specs.Placing.{placed, behind, stopped, hourStopped};
 use ground::LAST_HOUR;
-use hours::Written;
-use hours::digit_count;
-use hours::put_digits;
-use hours::write_hour;
+use writer::Written;
+use writer::digit_count;
+use writer::put_digits;
+use writer::write_hour;
 
 // Room enough for any line that a program prints, which has four fields at most: two words, or a word and an hour, and two numbers of ten digits.
 pub const LINE_ROOM: usize = 48;

@@ -10,9 +10,9 @@ use Rattle.ground.specs.Buffer.{fitted, lengthOf, bufferAfter}
 use Rattle.ground.specs.Outcome.{Single}
 use Rattle.ground.proofs.Buffer.{refused-stays, written-rest}
 use Rattle.ground.proofs.Outcome.{single-writing}
-use Rattle.hours.specs.Writing.{asLength}
-use Rattle.hours.specs.declared.Written.{Written}
-use Rattle.hours.proofs.Promises.{length-told}
+use Rattle.writer.specs.Writing.{asLength}
+use Rattle.writer.specs.declared.Written.{Written}
+use Rattle.writer.proofs.Promises.{length-told}
 use Rattle.pieces.proofs.Promises as pieces
 use Rattle.book.specs.declared.Answer.{Answer}
 use Rattle.replies.specs.Replies.{replyLine, sumLine, replyWritten}

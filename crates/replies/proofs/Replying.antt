@@ -16,8 +16,8 @@ use Rattle.ground.proofs.Tests.{by-test, never-both}
 use Rattle.ground.proofs.Digits.{spelled-most}
 use Rattle.ground.proofs.Writing as writing
 use Rattle.hours.specs.Classes.{comma}
-use Rattle.hours.specs.Writing.{hourText}
-use Rattle.hours.proofs.Writing.{length-of-text}
+use Rattle.writer.specs.Writing.{hourText}
+use Rattle.writer.proofs.Writing.{length-of-text}
 use Rattle.texts.specs.Lines.{lineEnd}
 use Rattle.fields.specs.Fields.{tab}
 use Rattle.fields.specs.Meaning.{tabbed}

@@ -8,7 +8,7 @@ use Rattle.ground.specs.Limits.{lastHour}
 use Rattle.ground.specs.Digits.{spelled}
 use Rattle.ground.specs.Text.{bytes}
 use Rattle.hours.specs.Classes.{comma}
-use Rattle.hours.specs.Writing.{hourText}
+use Rattle.writer.specs.Writing.{hourText}
 use Rattle.texts.specs.Lines.{lineEnd}
 use Rattle.texts.specs.Meaning.{joined}
 use Rattle.fields.specs.Meaning.{tabbed}

@@ -5,18 +5,18 @@ ghost use Prim.Native.Nat.{_≤_};
 ghost use lib.ListN.{length};
 ghost use Rattle.ground.specs.Refusal.{right};
 ghost use Rattle.ground.specs.Buffer.{fitted, lengthOf, bufferAfter};
-ghost use Rattle.hours.specs.Writing.{asLength};
+ghost use Rattle.writer.specs.Writing.{asLength};
 ghost use Rattle.fields.specs.Fields.{tab};
 ghost use Rattle.pieces.specs.Placing.{placed, behind, stopped, Put};
 ghost use Rattle.replies.specs.Steps.{lineRoom};
 ghost use Rattle.replies.specs.Judgements.{textWord, judgementLine};
-use hours::Written;
 use pieces::LINE_ROOM;
 use pieces::put_number;
 use pieces::put_word;
 use pieces::write_text;
 use plans::Fault;
 use plans::Judgement;
+use writer::Written;
 
 // Puts the word for the text at fault and a tab at a place, and answers the place behind them; the place itself where they have no room.
 fn put_text(plan: bool, at: usize, printed: &mut [u8]) -> usize

@@ -9,18 +9,18 @@ ghost use lib.ListN.{length};
 ghost use Rattle.ground.specs.Refusal.{right};
 ghost use Rattle.ground.specs.Limits.{lastHour};
 ghost use Rattle.ground.specs.Buffer.{fitted, lengthOf, bufferAfter};
-ghost use Rattle.hours.specs.Writing.{asLength};
+ghost use Rattle.writer.specs.Writing.{asLength};
 ghost use Rattle.pieces.specs.Placing.{Put};
 ghost use Rattle.replies.specs.Replies.{lineWith, answerFields, replyLine, sumLine, startInRange, replyWritten};
 ghost use Rattle.replies.specs.Steps.{answerRoom, lineRoom};
 use book::Answer;
 use ground::LAST_HOUR;
-use hours::Written;
 use pieces::LINE_ROOM;
 use pieces::put_hour;
 use pieces::put_number;
 use pieces::put_word;
 use pieces::write_text;
+use writer::Written;
 
 // An answer's start, where it has one, is an hour.
 fn start_in_range(answer: Answer) -> bool

@@ -7,8 +7,8 @@ use borrow.Author.Tests.{ltb-true, ltb-false}
 use Rattle.ground.specs.Limits.{lastHour}
 use Rattle.ground.proofs.Digits.{spelled-short}
 use Rattle.hours.specs.Classes.{comma}
-use Rattle.hours.specs.Writing.{hourText}
-use Rattle.hours.proofs.Writing.{length-of-text}
+use Rattle.writer.specs.Writing.{hourText}
+use Rattle.writer.proofs.Writing.{length-of-text}
 use Rattle.pieces.proofs.Placing.{field-stays, Fits, part-sized, field-put, nothing-put, hour-within, hour-above, hour-fills}
 use Rattle.pieces.proofs.put_hour.Statement.{statement}
 use Rattle.pieces.proofs.put_hour.Tie as tie

@@ -6,7 +6,7 @@ use lib.ListN.{length, length-append}
 use native.Mathlib.Omega.{arith}
 use borrow.Author.Needs.{needs}
 use Rattle.hours.specs.Classes.{comma}
-use Rattle.hours.specs.Writing.{hourText}
+use Rattle.writer.specs.Writing.{hourText}
 use Rattle.texts.specs.Lines.{lineEnd}
 use Rattle.lines.proofs.PlanLine.{Parted, number-fits, number-room, rest-room, number-and-rest}
 use Rattle.lines.proofs.writing.put_chamber_and_start.Statement.{statement}

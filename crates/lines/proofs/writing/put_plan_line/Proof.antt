@@ -7,7 +7,7 @@ use native.Mathlib.Omega.{arith}
 use borrow.Author.Needs.{needs}
 use Rattle.ground.specs.Digits.{spelled}
 use Rattle.hours.specs.Classes.{comma}
-use Rattle.hours.specs.Writing.{hourText}
+use Rattle.writer.specs.Writing.{hourText}
 use Rattle.texts.specs.Lines.{lineEnd}
 use Rattle.fields.specs.Fields.{tab}
 use Rattle.lines.proofs.PlanLine.{Parted, number-fits, number-room, rest-room, number-and-rest, length-of-text, text-in-two}

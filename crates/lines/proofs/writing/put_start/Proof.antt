@@ -10,8 +10,8 @@ use Rattle.ground.specs.Limits.{lastHour}
 use Rattle.ground.specs.Buffer.{fitted, bufferAfter}
 use Rattle.ground.proofs.Buffer.{onto-all}
 use Rattle.hours.specs.Classes.{comma}
-use Rattle.hours.specs.Writing.{hourText, hourWritten}
-use Rattle.hours.proofs.Writing.{written-exactly}
+use Rattle.writer.specs.Writing.{hourText, hourWritten}
+use Rattle.writer.proofs.Writing.{written-exactly}
 use Rattle.texts.specs.Lines.{lineEnd}
 use Rattle.lines.proofs.PlanLine.{byte-behind}
 use Rattle.lines.proofs.writing.put_start.Statement.{statement}

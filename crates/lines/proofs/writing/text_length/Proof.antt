@@ -4,7 +4,7 @@ use native.Mathlib.Omega.{arith}
 use borrow.Author.Needs.{needs}
 use Rattle.ground.proofs.Digits.{spelled-short}
 use Rattle.hours.specs.Classes.{comma}
-use Rattle.hours.proofs.Writing as hours
+use Rattle.writer.proofs.Writing as hours
 use Rattle.lines.proofs.PlanLine.{length-of-text}
 use Rattle.lines.proofs.writing.text_length.Statement.{statement}
 use Rattle.lines.proofs.writing.text_length.Tie as tie

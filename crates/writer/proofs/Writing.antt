@@ -16,11 +16,11 @@ use Rattle.ground.proofs.Refusal.{same-right}
 use Rattle.ground.proofs.Digits.{last-is-digit, spelled-worth, spelled-plain}
 use Rattle.ground.proofs.Writing as writing
 use Rattle.ground.proofs.Buffer.{written-front}
 use Rattle.hours.specs.Spelling.{Spells}
 use Rattle.hours.specs.Spelling.Spells.{hundredths}
 use Rattle.hours.specs.Reading.{hourOf}
-use Rattle.hours.specs.Writing.{hourText, hourWritten}
+use Rattle.writer.specs.Writing.{hourText, hourWritten}
 use Rattle.hours.proofs.Spelling.{reads-exactly}
 
 -- an hour's text has three bytes more than its whole part
 pub length-of-text : (mark hour : ℕ) → length (hourText mark hour) ≡ length (spelled (hour / 100)) + 3

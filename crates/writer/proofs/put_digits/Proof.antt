@@ -7,8 +7,8 @@ use borrow.Author.Needs.{needs}
 use lib.ListN.{length, drop, length-set}
 use Rattle.ground.specs.Digits.{lastDigits}
 use Rattle.ground.proofs.Digits.{fill-start, fill-step, fill-end}
-use Rattle.hours.proofs.put_digits.Statement.{statement}
-use Rattle.hours.proofs.put_digits.Tie as tie
+use Rattle.writer.proofs.put_digits.Statement.{statement}
+use Rattle.writer.proofs.put_digits.Tie as tie
 
 abbrev Inv-loop : tie.InvT-loop
 Inv-loop number buffer₀ left₀ at₀ buffer left at =

@@ -11,9 +11,9 @@ use Rattle.ground.specs.Digits.{lastDigits}
 use Rattle.ground.specs.Buffer.{onto}
 use Rattle.ground.proofs.Digits.{length-last-digits}
 use Rattle.ground.proofs.Buffer.{length-of-onto, onto-all, onto-byte, front-filled, part-filled}
 use Rattle.hours.specs.Classes.{comma}
-use Rattle.hours.proofs.put_hour.Statement.{statement}
-use Rattle.hours.proofs.put_hour.Tie as tie
+use Rattle.writer.proofs.put_hour.Statement.{statement}
+use Rattle.writer.proofs.put_hour.Tie as tie
 
 module _ (hour : ℕ) (entry one : List ℕ) (room : 3 ≤ length entry) (first : one ≡ lastDigits (length (take (length entry - 3) entry)) (hour / 100)) where
   -- the whole hours and the mark

@@ -5,8 +5,8 @@ use mathlib.Core.Bool.{Bool, true, false, cond}
 use lib.Dec.{leb}
 use native.Mathlib.Omega.{arith}
 use borrow.Author.Needs.{needs}
-use Rattle.hours.proofs.writing_refusal.Statement.{statement}
-use Rattle.hours.proofs.writing_refusal.Tie as tie
+use Rattle.writer.proofs.writing_refusal.Statement.{statement}
+use Rattle.writer.proofs.writing_refusal.Tie as tie
 
 -- what the checks come to: 0 with both tests passed, 7 where only the room is short, 4 out of range, whatever the room
 told :

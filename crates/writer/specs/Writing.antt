@@ -5,8 +5,8 @@ use lib.Dec.{leb}
 use Rattle.ground.specs.Refusal.{Read, wrong, right, check, _>>_}
 use Rattle.ground.specs.Limits.{lastHour}
 use Rattle.ground.specs.Digits.{lastDigit, spelled}
-use Rattle.hours.specs.declared.Written.{Written}
-use Rattle.hours.specs.declared.Written.the-variants.{Length, Refused}
+use Rattle.writer.specs.declared.Written.{Written}
+use Rattle.writer.specs.declared.Written.the-variants.{Length, Refused}
 
 -- an hour's text: the whole hours, the mark, the tenth and the hundredth
 unfoldable pub hourText : ℕ → ℕ → List ℕ

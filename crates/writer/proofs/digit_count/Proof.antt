@@ -6,8 +6,8 @@ use borrow.Author.Needs.{needs}
 use lib.ListN.{length}
 use Rattle.ground.specs.Digits.{spelled}
 use Rattle.ground.proofs.Digits.{length-one, length-tenfold}
-use Rattle.hours.proofs.digit_count.Statement.{statement}
-use Rattle.hours.proofs.digit_count.Tie as tie
+use Rattle.writer.proofs.digit_count.Statement.{statement}
+use Rattle.writer.proofs.digit_count.Tie as tie
 
 abbrev Inv-loop : tie.InvT-loop
 Inv-loop number left₀ count₀ left count =

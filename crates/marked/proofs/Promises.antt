@@ -1,0 +1,28 @@
+-- The twelve marked cases hold: each is computed. Assumes nothing.
+use mathlib.Core.Path.{refl}
+use Rattle.ground.specs.Digits.{spelledWithin, spelled, lastDigits}
+use Rattle.ground.specs.Text.{bytes}
+use Rattle.hours.specs.Classes.{classOf}
+use Rattle.hours.specs.Reading.{scanned, hourOf, plainOf}
+use Rattle.writer.specs.Writing.{hourText}
+use Rattle.texts.specs.Lines.{linesOf, lineLength, lineAt}
+use Rattle.texts.specs.Meaning.{joined}
+use Rattle.fields.specs.Fields.{sameBytes, isEnded, fieldsOf, shapeOf}
+use Rattle.fields.specs.Meaning.{tabbed}
+use Rattle.lines.specs.Reading.{steam, steamAt, ranged, plainWithin, hourWithin, headingOf, orderOf, loadOf}
+use Rattle.book.specs.BestFit.{offer, bestFit}
+use Rattle.book.specs.Soundness.{allUpTo, allMet, soundness, isSound}
+use Rattle.book.specs.Taking.{decided}
+use Rattle.orders.specs.Answers.{opening, orderLines, answersFrom, bookAfter}
+use Rattle.plans.specs.Judging.{through, noteOrder, standsIn, overlapsAny, loadChecked, noteLoad, listJudged, planJudged, loadsCounted, bothJudged, judged}
+use Rattle.replies.specs.Replies.{replyLine, sumLine, numbered, repliesFrom, replyOf}
+use Rattle.limit.specs.Example.{paperList, paperPlan}
+use Rattle.marked.specs.Cases.{AllHold, paperReply, markedCases}
+
+-- all twelve
+pub marked-cases-hold : AllHold markedCases
+unfolding
+    AllHold markedCases paperReply paperList paperPlan bytes spelled spelledWithin lastDigits hourText classOf scanned hourOf plainOf linesOf lineLength lineAt joined sameBytes
+    isEnded fieldsOf shapeOf tabbed steam steamAt ranged plainWithin hourWithin headingOf orderOf loadOf offer bestFit allUpTo allMet soundness isSound decided opening orderLines
+    answersFrom bookAfter replyLine sumLine numbered repliesFrom replyOf through noteOrder standsIn overlapsAny loadChecked noteLoad listJudged planJudged loadsCounted bothJudged judged
+marked-cases-hold = (refl, (refl, (refl, (refl, (refl, (refl, (refl, (refl, (refl, (refl, (refl, (refl, tt))))))))))))

@@ -1,0 +1,2 @@
+-- The cases, and what it means that they hold.
+pub mod Cases
