@@ -44,6 +44,7 @@ use std::ffi::OsString;
 use std::io::{self, Read, Write};
 use std::process::ExitCode;
 
+use chance::Chance;
 use compare::Findings;
 use compare_checker::compare_checker;
 use compare_desk::compare_desk;
@@ -57,6 +58,7 @@ oracle list SEED                      writes the order list of this seed
 oracle plan SEED                      writes the plan of this seed, made for that list
 oracle pair-list SEED                 writes the list of this seed's pair for checkers
 oracle pair-plan SEED                 writes the plan of that pair
+oracle noise LENGTH SEED              writes so many bytes of any value
 oracle coverage N SEED                counts what the lists of N seeds bring about
 oracle coverage-checker N SEED        counts what the pairs of N seeds bring about
 oracle compare N SEED DESK            compares the desk program at DESK over N seeds
@@ -78,6 +80,9 @@ fn main() -> ExitCode {
         ["plan", seed] => on_number(seed, |seed| print(&plans::plan(seed).text)),
         ["pair-list", seed] => on_number(seed, |seed| print(&pair(seed).list.text)),
         ["pair-plan", seed] => on_number(seed, |seed| print(&pair(seed).plan.text)),
+        ["noise", length, seed] => on_numbers(length, seed, |length, seed| {
+            print(&noise::any_bytes(&mut Chance::from_seed(seed), length as usize))
+        }),
         ["coverage", count, seed] => on_numbers(count, seed, |count, seed| {
             print(coverage::coverage(count, seed).as_bytes())
         }),
