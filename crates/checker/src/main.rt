@@ -3,7 +3,7 @@
 use ground::LONGEST_TEXT;
 use pieces::LINE_ROOM;
 use replies::judgements::write_judgement;
-use writer::Written;
+use writer::text_in;
 
 // Room for a text, and for one byte more, which tells that it is too long.
 const ROOM: usize = LONGEST_TEXT + 1;
@@ -46,17 +46,5 @@ fn was_read(file: i32) -> bool {
 fn print_judgement(list: &[u8], plan: &[u8]) {
     let mut buffer = [0u8; LINE_ROOM];
     let written = write_judgement(plans::judge(list, plan), &mut buffer);
-    print_line(written, &buffer);
-}
-
-// A line that was written to a buffer.
-fn print_line(written: Written, buffer: &[u8]) {
-    match written {
-        Written::Length(length) => {
-            if length <= buffer.len() {
-                io::write_all(1, &buffer[..length]);
-            }
-        }
-        Written::Refused(_) => {}
-    }
+    io::write_all(1, text_in(written, &buffer));
 }

@@ -6,7 +6,7 @@ use book::Answer;
 use ground::LONGEST_TEXT;
 use orders::Progress;
 use pieces::LINE_ROOM;
-use writer::Written;
+use writer::text_in;
 
 // Room for a list, and for one byte more, which tells that a text is too long.
 const ROOM: usize = LONGEST_TEXT + 1;
@@ -68,23 +68,11 @@ fn print_next(text: &[u8], progress: Progress) -> Progress
 fn print_answer(line: u32, answer: Answer) {
     let mut buffer = [0u8; LINE_ROOM];
     let written = replies::write_answer(line, answer, &mut buffer);
-    print_line(written, &buffer);
+    io::write_all(1, text_in(written, &buffer));
 }
 
 fn print_sum(taken: u32, kept: u32) {
     let mut buffer = [0u8; LINE_ROOM];
     let written = replies::write_sum(taken, kept, &mut buffer);
-    print_line(written, &buffer);
-}
-
-// A line that was written to a buffer.
-fn print_line(written: Written, buffer: &[u8]) {
-    match written {
-        Written::Length(length) => {
-            if length <= buffer.len() {
-                io::write_all(1, &buffer[..length]);
-            }
-        }
-        Written::Refused(_) => {}
-    }
+    io::write_all(1, text_in(written, &buffer));
 }

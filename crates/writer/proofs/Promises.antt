@@ -6,7 +6,7 @@ use lib.Dec.{leb}
 use mathlib.Core.List.{List}
 use mathlib.Core.Logic.{_↔_}
 use lib.ListN.{length, take, drop}
-use Rattle.ground.specs.Refusal.{wrong, right}
+use Rattle.ground.specs.Refusal.{Read, wrong, right}
 use Rattle.ground.specs.Limits.{lastHour}
 use Rattle.ground.specs.Digits.{spelled, lastDigits}
 use Rattle.ground.specs.Buffer.{fitted, lengthOf, bufferAfter}
@@ -16,7 +16,7 @@ use Rattle.ground.proofs.Refusal.{never-right, same-right, same-wrong}
 use Rattle.ground.proofs.Outcome.{single-value, single-writing}
 use Rattle.hours.specs.Classes.{comma}
 use Rattle.hours.specs.Reading.{hourOf}
-use Rattle.writer.specs.Writing.{hourText, hourWritten, asLength}
+use Rattle.writer.specs.Writing.{hourText, hourWritten, asLength, textIn}
 use Rattle.writer.specs.declared.Written.{Written}
 use Rattle.writer.specs.declared.Written.the-variants as written
 use Rattle.writer.proofs.Writing as writing
@@ -49,6 +49,12 @@ pub write-changes-its-own :
     (hour : ℕ) (buffer : List ℕ) (count : ℕ) → lengthOf (fitted buffer (hourWritten comma hour)) ≡ right count
     → drop count (bufferAfter buffer (fitted buffer (hourWritten comma hour))) ≡ drop count buffer
 write-changes-its-own hour buffer = written-rest buffer (fitted buffer (hourWritten comma hour))
+
+-- what was written, to whatever buffer it fits, is the text that stands in it
+pub written-stands :
+    (buffer : List ℕ) (text : Read (List ℕ)) (bytes : List ℕ) (written : Written) → fitted buffer text ≡ right bytes
+    → asLength written ≡ lengthOf (fitted buffer text) → textIn written (bufferAfter buffer (fitted buffer text)) ≡ bytes
+written-stands = writing.written-stands
 
 -- 2e: what was written reads back as the hour
 pub written-reads-back :
@@ -85,3 +91,6 @@ pub write-hour-single :
     × (outcome .1 ≡ bufferAfter buffer (fitted buffer (hourWritten comma hour))))
 write-hour-single hour buffer =
     single-writing asLength length-told (lengthOf (fitted buffer (hourWritten comma hour))) (bufferAfter buffer (fitted buffer (hourWritten comma hour)))
+
+pub text-in-single : (written : Written) (buffer : List ℕ) → Single (λ text. text ≡ textIn written buffer)
+text-in-single written buffer = single-value (textIn written buffer)

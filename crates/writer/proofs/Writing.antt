@@ -4,22 +4,24 @@ use mathlib.Core.Path.{_≡_, refl, sym, ap, _∙_}
 use mathlib.Core.Bool.{false}
 use mathlib.Core.List.{List}
 use mathlib.Core.Logic.{_↔_, Iff·trans}
-use lib.ListN.{length, take, length-append}
+use lib.ListN.{length, take, length-append, length-take}
 use lib.Dec.{leb}
 use native.Mathlib.Omega.{arith}
 use borrow.Author.Tests.{leb-true, leb-false, le-leb, lt-leb}
-use Rattle.ground.specs.Refusal.{right, wrong, check, _>>_}
+use Rattle.ground.specs.Refusal.{Read, right, wrong, check, _>>_}
 use Rattle.ground.specs.Limits.{lastHour}
 use Rattle.ground.specs.Digits.{isDigit, lastDigit, spelled}
-use Rattle.ground.specs.Buffer.{fitted, lengthOf, bufferAfter}
-use Rattle.ground.proofs.Refusal.{same-right}
+use Rattle.ground.specs.Buffer.{onto, fitted, lengthOf, bufferAfter}
+use Rattle.ground.proofs.Refusal.{never-right, same-right}
 use Rattle.ground.proofs.Digits.{last-is-digit, spelled-worth, spelled-plain}
 use Rattle.ground.proofs.Writing as writing
-use Rattle.ground.proofs.Buffer.{written-front}
+use Rattle.ground.proofs.Buffer.{front-of-onto, written-front}
 use Rattle.hours.specs.Spelling.{Spells}
 use Rattle.hours.specs.Spelling.Spells.{hundredths}
 use Rattle.hours.specs.Reading.{hourOf}
-use Rattle.writer.specs.Writing.{hourText, hourWritten}
+use Rattle.writer.specs.Writing.{hourText, hourWritten, asLength, frontOf, textIn}
+use Rattle.writer.specs.declared.Written.{Written}
+use Rattle.writer.specs.declared.Written.the-variants.{Length, Refused}
 use Rattle.hours.proofs.Spelling.{reads-exactly}
 
 -- an hour's text has three bytes more than its whole part
@@ -79,3 +81,14 @@ module _ (mark : ℕ) (unlike : isDigit mark ≡ false) where
   written-reads-back hour buffer count done =
       let p = written-exactly mark hour buffer _ .0 (written-front buffer (fitted buffer (hourWritten mark hour)) count done) in
       ap (hourOf mark) (p .2) ∙ reads-back hour (p .0)
+
+-- what was written, to whatever buffer it fits, is the text that stands in it
+pub written-stands :
+    (buffer : List ℕ) (text : Read (List ℕ)) (bytes : List ℕ) (written : Written) → fitted buffer text ≡ right bytes
+    → asLength written ≡ lengthOf (fitted buffer text) → textIn written (bufferAfter buffer (fitted buffer text)) ≡ bytes
+unfolding textIn frontOf
+written-stands buffer text bytes (Length count) fits answered =
+    let size : count ≡ length bytes = same-right (answered ∙ ap lengthOf fits) in
+    let room : length bytes ≤ length (onto bytes buffer) = omega (arith, ap length (front-of-onto bytes buffer), length-take (length bytes) (onto bytes buffer)) in
+    rw (fits, size, le-leb (length bytes) (length (onto bytes buffer)) room, front-of-onto bytes buffer)
+written-stands buffer text bytes (Refused number) fits answered = absurd (never-right (answered ∙ ap lengthOf fits))

@@ -1,6 +1,8 @@
 -- How an hour is written: "The writer always writes two digits after the comma: 1850 is `18,50`." Assumes nothing.
 use Prim.Native.Nat.{ℕ, _/_}
+use mathlib.Core.Bool.{cond}
 use mathlib.Core.List.{List, [], _∷_, _++_}
+use lib.ListN.{length, take}
 use lib.Dec.{leb}
 use Rattle.ground.specs.Refusal.{Read, wrong, right, check, _>>_}
 use Rattle.ground.specs.Limits.{lastHour}
@@ -22,3 +24,11 @@ hourWritten mark hour = do
 abbrev pub asLength : Written → Read ℕ
 asLength (Length length) = right length
 asLength (Refused number) = wrong number
+
+-- the text that was written to a buffer: its front, as long as was answered; nothing where the writing was refused, or the buffer is shorter
+unfoldable pub frontOf : ℕ → List ℕ → List ℕ
+frontOf count buffer = cond (leb count (length buffer)) (take count buffer) []
+
+unfoldable pub textIn : Written → List ℕ → List ℕ
+textIn (Length length) buffer = frontOf length buffer
+textIn (Refused number) buffer = []

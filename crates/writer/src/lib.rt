@@ -9,7 +9,7 @@ ghost use lib.Dec.{leb};
 ghost use Rattle.ground.specs.Digits.{spelled, lastDigits};
 ghost use Rattle.ground.specs.Buffer.{fitted, lengthOf, bufferAfter};
 ghost use Rattle.hours.specs.Classes.{comma};
-ghost use Rattle.writer.specs.Writing.{hourWritten, asLength};
+ghost use Rattle.writer.specs.Writing.{hourWritten, asLength, frontOf, textIn};
 use ground::LAST_HOUR;
 
 // What a writing answers: the length of what stands at the buffer's front now, or the refusal's number.
@@ -84,4 +84,24 @@ pub fn write_hour(hour: u32, buffer: &mut [u8]) -> Written
     }
     put_hour(hour, &mut buffer[..length]);
     Written::Length(length)
+}
+
+// The front of a buffer, so many bytes of it; nothing where it is shorter.
+fn front<'a>(count: usize, buffer: &'a [u8]) -> &'a [u8]
+    ensures { λ r. ⌜ now r ≡ frontOf count (now (buffer .entry)) ⌝ }
+{
+    if count <= buffer.len() {
+        return &buffer[..count];
+    }
+    &buffer[..0]
+}
+
+// The text that was written to a buffer; nothing where the writing was refused.
+pub fn text_in<'a>(written: Written, buffer: &'a [u8]) -> &'a [u8]
+    ensures { λ r. ⌜ now r ≡ textIn written (now (buffer .entry)) ⌝ }
+{
+    match written {
+        Written::Length(length) => front(length, buffer),
+        Written::Refused(_) => &buffer[..0],
+    }
 }

@@ -1,0 +1,30 @@
+-- `text_in` is the front as long as was answered, and nothing for a refusal.
+use borrow.Author.Needs.{needs}
+use Rattle.writer.specs.Writing.{textIn}
+use Rattle.writer.proofs.text_in.Statement.{statement}
+use Rattle.writer.proofs.text_in.Tie as tie
+
+enum-known-written : tie.Need-enum-known-written
+enum-known-written c = search needs
+
+front-requires : tie.Need-front-requires
+front-requires c κs = search needs
+
+enum-told : tie.Need-enum-told
+enum-told c = search needs
+
+slice-aggregate-result : tie.Need-slice-aggregate-result
+slice-aggregate-result c = search needs
+
+returns : tie.Need-returns
+unfolding textIn
+returns c = rw (c .before .before .written .given .1) (c .front .ensures)
+
+returns-2 : tie.Need-returns-2
+unfolding textIn
+returns-2 c = rw (c .before .enum-told .given .1)
+
+pub text-in-spec : {M : Type 1} → statement M
+text-in-spec =
+    tie.close
+    (tie.spec enum-known-written front-requires enum-told slice-aggregate-result returns returns-2)
