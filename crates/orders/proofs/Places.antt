@@ -2,12 +2,13 @@
 use Prim.Native.Nat.{ℕ, _<_}
 use mathlib.Core.Path.{_≡_, sym, ap, _∙_}
 use mathlib.Core.List.{List}
-use lib.ListN.{length, drop, length-take}
+use lib.ListN.{length, drop}
 use lib.Dec.{ltb}
 use native.Mathlib.Omega.{arith}
 use borrow.Author.Tests.{ltb-true, ltb-false}
 use Rattle.ground.proofs.Tests.{by-test}
-use Rattle.texts.specs.Lines.{linesOf, lineLength, lineAt, pastLine}
+use Rattle.texts.specs.Lines.{linesOf, pastLine}
+use Rattle.texts.proofs.Lines.{past-is}
 use Rattle.texts.proofs.Promises.{walk-on, walk-some, walk-done}
 use Rattle.orders.specs.Answers.{orderLines, progressPast}
 use Rattle.orders.specs.declared.Progress.{Progress}
@@ -21,7 +22,4 @@ begun-left text =
 
 -- while a line is left the place moves on
 pub moves-on : (text : List ℕ) (progress : Progress) → progress .at < length text → progress .at < progressPast text progress .at
-unfolding pastLine lineAt
-moves-on text progress inside =
-    let at = progress .at in
-    omega (arith, walk-some text at inside, length-take (lineLength (drop at text)) (drop at text))
+moves-on text progress inside = omega (arith, past-is text (progress .at), walk-some text (progress .at) inside)

@@ -3,11 +3,11 @@
 ghost use mathlib.Core.Path.{_≡_};
 ghost use Rattle.ground.specs.Refusal.{right};
 ghost use Rattle.texts.specs.Lines.{lineAt};
-ghost use Rattle.lines.specs.Reading.{headingOf, orderOf};
+ghost use Rattle.lines.specs.Reading.{headingOf};
 ghost use Rattle.book.specs.Soundness.{freshBook};
-ghost use Rattle.book.specs.Taking.{told};
+ghost use Rattle.book.specs.Taking.{told, answerOf};
 ghost use Rattle.book.specs.declared.Answer.the-variants as Answer;
-ghost use Rattle.orders.specs.Answers.{opening, lineAfter, notBegun, begunWith, begunBy, progressTo, Stepped};
+ghost use Rattle.orders.specs.Answers.{opening, decision, bookPast, lineAfter, notBegun, begunWith, begunBy, Stepped};
 use book::Answer;
 use book::Book;
 use ground::LONGEST_TEXT;
@@ -93,21 +93,21 @@ pub fn begin(text: &[u8]) -> Begun
     }
 }
 
-// The progress past the line at its place, with this book.
-fn past(text: &[u8], progress: Progress, book: Book) -> Progress
-    ensures { λ r. ⌜ r ≡ progressTo (now (text .entry)) progress book ⌝ }
+// The progress past a line that ends here, with this book.
+fn past(end: usize, progress: Progress, book: Book) -> Progress
+    ensures { λ r. ⌜ r ≡ record { at = end; line = lineAfter (progress .line); book = book } ⌝ }
 {
     Progress {
-        at: line_end(text, progress.at),
+        at: end,
         line: line_after(progress.line),
         book,
     }
 }
 
 // A line that reads as an order: the book takes it.
-fn booked(text: &[u8], progress: Progress, order: Order) -> Step
-    requires { ⌜ orderOf (lineAt (now text) (progress .at)) ≡ right order ⌝ }
-    ensures { λ r. ⌜ Stepped (now (text .entry)) progress r ⌝ }
+fn booked(end: usize, progress: Progress, order: Order) -> Step
+    ensures { λ r. ⌜ (told (r .answer) ≡ told (answerOf (decision (progress .book) (right order))))
+        × (r .progress ≡ record { at = end; line = lineAfter (progress .line); book = bookPast (progress .book) (right order) }) ⌝ }
 {
     let book = progress.book;
     let taken = book.take(order.ready, order.due);
@@ -115,17 +115,17 @@ fn booked(text: &[u8], progress: Progress, order: Order) -> Step
     let next = taken.book;
     Step {
         answer,
-        progress: past(text, progress, next),
+        progress: past(end, progress, next),
     }
 }
 
 // A refused line: it is counted, and the book is as it was.
-fn passed(text: &[u8], progress: Progress, number: u32) -> Step
-    ensures { λ r. ⌜ (told (r .answer) ≡ told (Answer.Refused number)) × (r .progress ≡ progressTo (now (text .entry)) progress (progress .book)) ⌝ }
+fn passed(end: usize, progress: Progress, number: u32) -> Step
+    ensures { λ r. ⌜ (told (r .answer) ≡ told (Answer.Refused number)) × (r .progress ≡ record { at = end; line = lineAfter (progress .line); book = progress .book }) ⌝ }
 {
     let book = progress.book;
     let answer = Answer::Refused(number);
-    let progress = past(text, progress, book);
+    let progress = past(end, progress, book);
     Step { answer, progress }
 }
 
@@ -134,8 +134,10 @@ pub fn next(text: &[u8], progress: Progress) -> Step
     ensures { λ r. ⌜ Stepped (now (text .entry)) progress r ⌝ }
 {
     let at = progress.at;
-    match read_order(line_at(text, at)) {
-        OrderRead::Read(order) => booked(text, progress, order),
-        OrderRead::Refused(number) => passed(text, progress, number),
+    let line = line_at(text, at);
+    let end = at + line.len();
+    match read_order(line) {
+        OrderRead::Read(order) => booked(end, progress, order),
+        OrderRead::Refused(number) => passed(end, progress, number),
     }
 }

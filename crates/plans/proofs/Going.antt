@@ -3,19 +3,14 @@ use Prim.Native.Nat.{ℕ, suc, _+_, _-_, _≤_, _<_}
 use mathlib.Core.Path.{_≡_, refl}
 use mathlib.Core.Bool.{Bool}
 use mathlib.Core.List.{List, [], _∷_}
-use lib.ListN.{length, take, drop, length-take, length-drop}
+use lib.ListN.{length, take, drop}
 use native.Mathlib.Numerals.{add-one}
 use native.Mathlib.Omega.{arith}
 use Rattle.ground.specs.Refusal.{Read, wrong, right}
-use Rattle.texts.specs.Lines.{linesOf, lineLength, lineAt, pastLine}
-use Rattle.texts.proofs.Lines.{line-within, line-is}
+use Rattle.texts.specs.Lines.{linesOf, lineAt, pastLine}
+use Rattle.texts.proofs.Lines.{line-is, past-is, not-beyond}
 use Rattle.texts.proofs.Promises.{walk-on, walk-some, walk-done}
 use Rattle.plans.specs.Judging.{through}
-
--- the place past a line is its own and the line's length
-past-is : (text : List ℕ) (at : ℕ) → at + length (lineAt text at) ≡ pastLine text at
-unfolding pastLine lineAt
-past-is text at = omega (arith, length-take (lineLength (drop at text)) (drop at text), line-within (drop at text))
 
 -- while a line is left the place moves on
 pub moves-on : (text : List ℕ) (at : ℕ) → at < length text → at < pastLine text at
@@ -23,8 +18,7 @@ moves-on text at inside = omega (arith, past-is text at, walk-some text at insid
 
 -- and it stays in the text
 pub ends-inside : (text : List ℕ) (at : ℕ) → at < length text → pastLine text at ≤ length text
-unfolding pastLine
-ends-inside text at inside = omega (arith, line-within (drop at text), length-drop at text)
+ends-inside text at inside = omega (arith, not-beyond text at)
 
 -- the part of a text up to the place past a line is that line
 pub part-is-line : (text : List ℕ) (at end : ℕ) → end ≡ pastLine text at → take (end - at) (drop at text) ≡ lineAt text at

@@ -1,9 +1,9 @@
 -- Laws of the lines of a text. Assumes nothing.
-use Prim.Native.Nat.{ℕ, _+_, _-_, _≤_, _<_}
+use Prim.Native.Nat.{ℕ, _+_, _-_, _≤_, _<_, max}
 use mathlib.Core.Path.{_≡_}
 use mathlib.Core.Bool.{Bool, true, false, cond}
 use mathlib.Core.List.{List, [], _∷_}
-use lib.ListN.{length, getD, take, drop, length-drop}
+use lib.ListN.{length, getD, take, drop, length-take, length-drop}
 use lib.Seq.{drop-cons}
 use lib.Dec.{eqb}
 use native.Mathlib.Numerals.{add-one}
@@ -48,6 +48,16 @@ module _ (text : List ℕ) (at : ℕ) where
   pub line-is : take (pastLine text at - at) (drop at text) ≡ lineAt text at
   unfolding pastLine lineAt
   line-is = let size : at + lineLength (drop at text) - at ≡ lineLength (drop at text) = omega arith in rw size
+
+  -- the place past the line is its own and the line's length
+  pub past-is : at + length (lineAt text at) ≡ pastLine text at
+  unfolding pastLine lineAt
+  past-is = omega (arith, length-take (lineLength (drop at text)) (drop at text), line-within (drop at text))
+
+  -- it lies in the text, or is the place itself
+  pub not-beyond : pastLine text at ≤ max at (length text)
+  unfolding pastLine
+  not-beyond = omega (arith, line-within (drop at text), length-drop at text)
 
   pub line-none : length text < pastLine text at → [] ≡ lineAt text at
   unfolding pastLine lineAt

@@ -10,10 +10,7 @@ past-requires : tie.Need-past-requires
 past-requires c κs = search needs
 
 returns : tie.Need-returns
-returns c =
-    let k = c .before .before in
-    let reads = k .before .before .before .pre in
-    record { said = rw reads (k .take .ensures .said); next = rw (c .past .ensures, reads, k .take .ensures .next) }
+returns c = let took = c .before .before .take .ensures in (took .said, rw (c .past .ensures, took .next))
 
 pub booked-spec : {M : Type 1} → statement M
 booked-spec = tie.close (tie.spec take-requires past-requires returns)

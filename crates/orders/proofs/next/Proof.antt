@@ -1,14 +1,17 @@
--- `next` goes by what the line reads as.
-use mathlib.Core.Path.{_≡_}
-use Rattle.ground.specs.Refusal.{wrong}
-use Rattle.texts.specs.Lines.{lineAt}
-use Rattle.lines.specs.Reading.{orderOf}
+-- `next` goes by what the line reads as, and past it by its length.
+use native.Mathlib.Omega.{arith}
+use Rattle.texts.proofs.Lines.{past-is, not-beyond}
 use borrow.Author.Needs.{needs}
 use Rattle.orders.proofs.next.Statement.{statement}
 use Rattle.orders.proofs.next.Tie as tie
 
 line-at-requires : tie.Need-line-at-requires
 line-at-requires c κs = search needs
+
+add-end : tie.Need-add-end
+add-end c =
+    let start = c .before .before .args in
+    rw (c .line-at .ensures) (omega (arith, past-is (start .text .now) (start .progress .at), not-beyond (start .text .now) (start .progress .at)))
 
 read-order-requires : tie.Need-read-order-requires
 read-order-requires c κs = search needs
@@ -17,9 +20,7 @@ enum-known-order : tie.Need-enum-known-order
 enum-known-order c = search needs
 
 booked-requires : tie.Need-booked-requires
-booked-requires c κs =
-    let k = c .before .before .before in
-    rw (← k .before .line-at .ensures, ← k .read-order .ensures, c .before .order .given .1)
+booked-requires c κs = search needs
 
 enum-known-number : tie.Need-enum-known-number
 enum-known-number c = search needs
@@ -28,21 +29,31 @@ passed-requires : tie.Need-passed-requires
 passed-requires c κs = search needs
 
 returns : tie.Need-returns
-returns c = search needs
+returns c =
+    let k = c .before .before .before .before in
+    let line = k .before .line-at .ensures in
+    let reads = c .before .before .order .given .1 in
+    record {
+      said = rw (← line, ← k .read-order .ensures, reads) (c .booked .ensures .0);
+      next = rw (← past-is _ _, ← line, ← k .read-order .ensures, reads) (c .booked .ensures .1);
+    }
 
 returns-2 : tie.Need-returns-2
 returns-2 c =
     let k = c .before .before .before .before in
-    let start = k .before .before .before in
-    let refused : orderOf (lineAt (start .args .text .now) (start .args .progress .at)) ≡ wrong (c .before .before .number .given .0 .0) =
-    rw (← k .before .line-at .ensures, ← k .read-order .ensures, c .before .before .number .given .1) in
-    record { said = rw refused (c .passed .ensures .0); next = rw refused (c .passed .ensures .1) }
+    let line = k .before .line-at .ensures in
+    let reads = c .before .before .number .given .1 in
+    record {
+      said = rw (← line, ← k .read-order .ensures, reads) (c .passed .ensures .0);
+      next = rw (← past-is _ _, ← line, ← k .read-order .ensures, reads) (c .passed .ensures .1);
+    }
 
 pub next-spec : {M : Type 1} → statement M
 next-spec =
     tie.close
     (tie.spec
     line-at-requires
+    add-end
     read-order-requires
     enum-known-order
     booked-requires
