@@ -1,6 +1,6 @@
 -- The twelve marked cases hold: each is computed. Assumes nothing.
 use mathlib.Core.Path.{refl}
-use Rattle.ground.specs.Digits.{spelledWithin, spelled, lastDigits}
+use Rattle.ground.specs.Digits.{spelledWithin, spelled}
 use Rattle.ground.specs.Text.{bytes}
 use Rattle.hours.specs.Classes.{classOf}
 use Rattle.hours.specs.Reading.{scanned, hourOf, plainOf}
@@ -22,7 +22,5 @@ use Rattle.marked.specs.Cases.{AllHold, paperReply, markedCases}
 -- all twelve
 pub marked-cases-hold : AllHold markedCases
 unfolding
-    AllHold markedCases paperReply paperList paperPlan bytes spelled spelledWithin lastDigits hourText classOf scanned hourOf plainOf linesOf lineLength lineAt joined sameBytes
-    isEnded fieldsOf shapeOf tabbed steam steamAt ranged plainWithin hourWithin headingOf orderOf loadOf offer bestFit allUpTo allMet soundness isSound decided opening orderLines
-    answersFrom bookAfter replyLine sumLine numbered repliesFrom replyOf through noteOrder standsIn overlapsAny loadChecked noteLoad listJudged planJudged loadsCounted bothJudged judged
+    AllHold markedCases paperReply paperList paperPlan bytes spelled spelledWithin hourText classOf scanned hourOf plainOf linesOf lineLength lineAt joined sameBytes isEnded fieldsOf shapeOf tabbed steam steamAt ranged plainWithin hourWithin headingOf orderOf loadOf offer bestFit allUpTo allMet soundness isSound decided opening orderLines answersFrom bookAfter replyLine sumLine numbered repliesFrom replyOf through noteOrder standsIn overlapsAny loadChecked noteLoad listJudged planJudged loadsCounted bothJudged judged
 marked-cases-hold = (refl, (refl, (refl, (refl, (refl, (refl, (refl, (refl, (refl, (refl, (refl, (refl, tt))))))))))))

@@ -14,7 +14,8 @@ use Rattle.ground.proofs.Buffer.{front-of-onto, rest-of-onto, length-of-onto, o
 use Rattle.hours.specs.Classes.{comma}
 use Rattle.writer.specs.Writing.{hourText, hourWritten}
 use Rattle.writer.proofs.Writing.{written-exactly}
-use Rattle.pieces.specs.Placing.{hasRoom, placed, behind, Put, stopped, hourStopped}
+use Rattle.pieces.specs.Placing.{hasRoom, placed, behind, stopped, hourStopped}
+use Rattle.pieces.specs.Steps.{Put}
 
 -- nothing written leaves the buffer
 pub onto-nothing : (buffer : List ℕ) → onto [] buffer ≡ buffer

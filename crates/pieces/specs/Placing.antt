@@ -1,6 +1,5 @@
 -- A text put at a place of a buffer, so that a line is written field behind field. Assumes nothing.
-use Prim.Native.Nat.{ℕ, _+_, _≤_}
-use mathlib.Core.Path.{_≡_}
+use Prim.Native.Nat.{ℕ, _+_}
 use mathlib.Core.Bool.{Bool, cond}
 use mathlib.Core.List.{List, [], _∷_, _++_}
 use lib.ListN.{length, take, drop}
@@ -20,12 +19,6 @@ placed at text buffer = cond (hasRoom at text buffer) (take at buffer ++ text ++
 -- the place behind it; the place itself where it has no room
 unfoldable pub behind : ℕ → List ℕ → List ℕ → ℕ
 behind at text buffer = cond (hasRoom at text buffer) (at + length text) at
-
--- a text has room and is put: the place behind it is answered, and the buffer holds it
-pub record Put (at : ℕ) (text buffer : List ℕ) (next : ℕ) (held : List ℕ) : Type 0 where
-  pub room : at + length text ≤ length buffer
-  pub past : next ≡ at + length text
-  pub holds : held ≡ placed at text buffer
 
 -- a field and the byte that stops it, a tab or a line end
 abbrev pub stopped : List ℕ → ℕ → List ℕ

@@ -10,7 +10,7 @@ ghost use Rattle.ground.specs.Refusal.{right};
 ghost use Rattle.ground.specs.Limits.{lastHour};
 ghost use Rattle.ground.specs.Buffer.{fitted, lengthOf, bufferAfter};
 ghost use Rattle.writer.specs.Writing.{asLength};
-ghost use Rattle.pieces.specs.Placing.{Put};
+ghost use Rattle.pieces.specs.Steps.{Put};
 ghost use Rattle.replies.specs.Replies.{lineWith, answerFields, replyLine, sumLine, startInRange, replyWritten};
 ghost use Rattle.replies.specs.Steps.{answerRoom, lineRoom};
 use book::Answer;

@@ -4,7 +4,8 @@ use native.Mathlib.Omega.{arith}
 use borrow.Author.Needs.{needs}
 use Rattle.ground.specs.Digits.{spelled}
 use Rattle.fields.specs.Fields.{tab}
-use Rattle.pieces.specs.Placing.{Put, stopped}
+use Rattle.pieces.specs.Steps.{Put}
+use Rattle.pieces.specs.Placing.{stopped}
 use Rattle.pieces.proofs.Placing.{put-roomy, put-length, put-both}
 use Rattle.replies.proofs.Replying.{number-short, reply-pieces}
 use Rattle.replies.proofs.put_reply.Statement.{statement}
