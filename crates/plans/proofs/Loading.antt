@@ -1,22 +1,15 @@
 -- Laws of what is asked of a load: its order's hours, its checks, and the refusal of its line. Assumes nothing.
 use Prim.Native.Nat.{ℕ, zero, suc, _≤_, _<_}
 use mathlib.Core.Path.{_≡_, refl}
-use mathlib.Core.Bool.{Bool, true, false, cond}
 use mathlib.Core.List.{List, [], _∷_}
-use lib.ListN.{length, getD, take, replicate}
+use lib.ListN.{getD, take, replicate}
 use native.Mathlib.Omega.{arith}
-use Rattle.ground.specs.Refusal.{wrong, check, numberOf}
+use Rattle.ground.specs.Refusal.{wrong}
 use Rattle.lines.specs.Reading.{loadOf}
 use Rattle.lines.specs.Meaning.{LoadFault, shape, one, two, last}
 use Rattle.lines.specs.Meaning.PlainFault.{unread as no-plain, outside as plain-outside}
 use Rattle.lines.specs.Meaning.HourFault.{unread as no-hour, outside as hour-outside}
 use Rattle.lines.proofs.Promises.{load-fault}
-
--- past the end of a list there is none
-pub getD-past : (hours : List ℕ) (place : ℕ) → length hours ≤ place → getD hours place 0 ≡ 0
-getD-past [] place past = refl
-getD-past (hour ∷ hours) zero past = absurd (omega arith)
-getD-past (hour ∷ hours) (suc place) past = getD-past hours place (omega arith)
 
 -- a buffer of zeros has nothing else
 pub zeros-at : (count place : ℕ) → _≡_ {A = ℕ} (getD (replicate count 0) place 0) 0
@@ -31,11 +24,6 @@ taken-there [] (suc count) at inside = refl
 taken-there (other ∷ others) zero at inside = absurd (omega arith)
 taken-there (other ∷ others) (suc count) zero inside = refl
 taken-there (other ∷ others) (suc count) (suc at) inside = taken-there others count at (omega arith)
-
--- the number of a check that nothing follows
-pub number-of-last-check : (met : Bool) (number : ℕ) → numberOf (check met number) ≡ cond met 0 number
-number-of-last-check true number = refl
-number-of-last-check false number = refl
 
 -- a plan line is not refused by 0
 fault-some : (count : ℕ) (line : List ℕ) {number : ℕ} → LoadFault count line number → 1 ≤ number

@@ -20,7 +20,8 @@ use Rattle.lines.specs.declared.reading.Heading.{Heading}
 use Rattle.lines.specs.declared.reading.Order.{Order}
 use Rattle.lines.specs.declared.reading.Load.{Load}
 use Rattle.lines.proofs.Promises.{load-fault}
-use Rattle.plans.specs.Judging.{PlanKnown, standsIn, overlap, overlapsAny, loadChecked, noteLoad}
+use Rattle.plans.specs.Judging.{PlanKnown, standsIn, overlapsAny, loadChecked, noteLoad}
+use Rattle.loads.specs.Checks.{overlap}
 use Rattle.plans.specs.Meaning.{Each, Some, Names, InTime, holdOf, Overlap, Apart, LoadWrong, misread, unlisted, again, early, late, overlapping}
 use Rattle.plans.proofs.Each.{each-so, anyOf, any-some, any-none, some-any, none-any}
 use Rattle.plans.proofs.Through.{both-right, one-wrong}

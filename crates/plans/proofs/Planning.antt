@@ -22,8 +22,10 @@ use Rattle.lines.specs.declared.reading.Heading.{Heading}
 use Rattle.lines.specs.declared.reading.Load.{Load}
 use Rattle.texts.proofs.Promises.{walk-on}
 use Rattle.texts.proofs.WholeText.{lines-within}
-use Rattle.plans.specs.Judging.{through, PlanKnown, standsIn, overlap, overlapsAny, loadChecked, noteLoad, planJudged, loadsCounted}
-use Rattle.plans.specs.Steps.{loadMarked, loadRefusal, Loaded}
+use Rattle.plans.specs.Judging.{through, PlanKnown, standsIn, overlapsAny, loadChecked, noteLoad, planJudged, loadsCounted}
+use Rattle.loads.specs.Checks.{overlap}
+use Rattle.loads.specs.Checks.{loadMarked}
+use Rattle.plans.specs.Steps.{loadRefusal, Loaded}
 use Rattle.plans.specs.declared.LoadNoted.{LoadNoted}
 use Rattle.plans.proofs.Loading.{taken-there}
 use Rattle.plans.proofs.Pigeonhole.{OrderLines, few-loads, no-order-lines, order-lines-more}

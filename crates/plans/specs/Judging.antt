@@ -3,7 +3,7 @@ use Prim.Native.Nat.{ℕ, suc, _+_, _-_}
 use mathlib.Core.Bool.{Bool, true, false, not, cond, _&&_, _||_}
 use mathlib.Core.List.{List, [], _∷_, _++_}
 use lib.ListN.{length, getD, take, drop}
-use lib.Dec.{leb, ltb, eqb}
+use lib.Dec.{leb, eqb}
 use Rattle.ground.specs.Refusal.{Or, Read, wrong, right, check, _>>=_, _>>_}
 use Rattle.ground.specs.Range.{within}
 use Rattle.ground.specs.Limits.{longestText}
@@ -15,6 +15,7 @@ use Rattle.lines.specs.declared.reading.Load.{Load}
 use Rattle.book.specs.Soundness.{freshBook}
 use Rattle.book.specs.Taking.{hold, decided, nextBook}
 use Rattle.book.specs.declared.Book.{Book}
+use Rattle.loads.specs.Checks.{overlap}
 use Rattle.orders.specs.Answers.{orderLines}
 use Rattle.plans.specs.declared.Fault.{Fault}
 use Rattle.plans.specs.declared.Judgement.{Judgement}
@@ -59,10 +60,6 @@ pub record PlanKnown : Type 0 where
 unfoldable pub standsIn : ℕ → List ℕ → Bool
 standsIn number [] = false
 standsIn number (other ∷ others) = eqb number other || standsIn number others
-
--- "Two loads overlap when each starts before the other ends"; here in one chamber, which each takes for the hold
-abbrev pub overlap : ℕ → ℕ → ℕ → ℕ → ℕ → Bool
-overlap hold chamber start other begins = eqb chamber other && (ltb start (begins + hold) && ltb begins (start + hold))
 
 -- a load overlaps one of several, of which these are the chambers and the starts
 unfoldable pub overlapsAny : ℕ → ℕ → ℕ → List ℕ → List ℕ → Bool

@@ -1,18 +1,16 @@
 -- What the private steps of the judge come to. The public definitions do not rest on it. Assumes nothing.
-use Prim.Native.Nat.{ℕ, suc, _+_, _-_, _≤_}
+use Prim.Native.Nat.{ℕ, _≤_}
 use mathlib.Core.Path.{_≡_}
 use mathlib.Core.List.{List}
-use lib.ListN.{length, getD, take}
-use lib.Dec.{leb, eqb}
-use Rattle.ground.specs.Refusal.{Or, Read, wrong, right, check, numberOf, _>>_}
-use Rattle.ground.specs.Range.{within}
+use lib.ListN.{take}
+use Rattle.ground.specs.Refusal.{Or, Read, wrong, right, numberOf}
 use Rattle.ground.specs.Limits.{mostOrders}
 use Rattle.lines.specs.Reading.{orderOf, loadOf}
-use Rattle.lines.specs.Writing.{firstOrderLine}
 use Rattle.lines.specs.declared.reading.Order.{Order}
 use Rattle.lines.specs.declared.reading.Load.{Load}
 use Rattle.book.specs.Taking.{decided, nextBook}
 use Rattle.book.specs.declared.Book.{Book}
+use Rattle.loads.specs.Checks.{loadMarked}
 use Rattle.orders.specs.Answers.{decision, bookPast}
 use Rattle.plans.specs.Judging.{ListKnown}
 use Rattle.plans.specs.declared.Fault.{Fault}
@@ -35,14 +33,6 @@ pub record Noted (book : Book) (line : List ℕ) (noted : OrderNoted) : Type 0 w
   pub refused : noted .refusal ≡ numberOf (decision book (orderOf line))
   pub hours : (order : Order) → orderOf line ≡ right order → (noted .ready ≡ order .ready) × (noted .due ≡ order .due)
   pub next : noted .book ≡ bookPast book (orderOf line)
-
--- the checks of a load from 11 to 14, with the plan lines on which the orders stand, 0 for none, in place of the order lines seen
-unfoldable pub loadMarked : ℕ → List ℕ → List ℕ → List ℕ → Load → Read (Unit {0})
-loadMarked run readies dues lines load = do
-  check (within firstOrderLine (suc (length readies)) (load .order)) 11
-  check (eqb (getD lines (load .order - firstOrderLine) 0) 0) 12
-  check (leb (getD readies (load .order - firstOrderLine) 0) (load .start)) 13
-  check (leb (load .start + run) (getD dues (load .order - firstOrderLine) 0)) 14
 
 -- a plan line read and checked up to 14: its refusal, 0 where there is none, and the load
 abbrev pub loadRefusal : ℕ → List ℕ → List ℕ → List ℕ → Read Load → ℕ

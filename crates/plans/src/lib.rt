@@ -1,19 +1,18 @@
 // The checker: an order list and a plan, made by whoever, are judged.
 // Any bytes may come. Assumes nothing.
 ghost use mathlib.Core.Path.{_≡_};
-ghost use mathlib.Core.Bool.{true, false, cond};
+ghost use mathlib.Core.Bool.{true, false};
 ghost use mathlib.Core.List.{[]};
-ghost use Prim.Native.Nat.{_-_, _≤_, suc};
-ghost use lib.ListN.{length, getD, drop};
+ghost use Prim.Native.Nat.{_≤_};
+ghost use lib.ListN.{length, drop};
 ghost use Rattle.ground.specs.Refusal.{wrong, right, numberOf};
-ghost use Rattle.ground.specs.Range.{within};
 ghost use Rattle.ground.specs.Limits.{mostOrders, longestText};
 ghost use Rattle.texts.specs.Lines.{linesOf, lineAt};
 ghost use Rattle.lines.specs.Reading.{headingOf};
-ghost use Rattle.lines.specs.Writing.{firstOrderLine};
 ghost use Rattle.book.specs.Taking.{told};
-ghost use Rattle.plans.specs.Judging.{through, noteOrder, overlap, loadsCounted, bothJudged, judged, asJudged, partOf, shown};
-ghost use Rattle.plans.specs.Steps.{orderGiven, Noted, loadMarked, Loaded, OrdersAre};
+ghost use Rattle.loads.specs.Checks.{loadMarked};
+ghost use Rattle.plans.specs.Judging.{through, noteOrder, loadsCounted, bothJudged, judged, asJudged, partOf, shown};
+ghost use Rattle.plans.specs.Steps.{orderGiven, Noted, Loaded, OrdersAre};
 use book::Answer;
 use book::Book;
 use ground::LONGEST_TEXT;
@@ -27,7 +26,9 @@ use lines::reading::OrderRead;
 use lines::reading::read_heading;
 use lines::reading::read_load;
 use lines::reading::read_order;
-use lines::writing::FIRST_ORDER_LINE;
+use loads::load_refusal;
+use loads::overlap;
+use loads::place_of;
 use texts::line_at;
 use texts::line_end;
 
@@ -168,63 +169,8 @@ fn read_orders(
     OrdersRead { fault, count }
 }
 
-// One of some hours; 0 where there are fewer.
-fn hour_at(hours: &[u32], place: usize) -> u32
-    ensures { λ r. ⌜ r ≡ getD (now (hours .entry)) place 0 ⌝ }
-{
-    if place < hours.len() {
-        return hours[place];
-    }
-    0
-}
-
-// A check's number where it is not met, else what the checks after it come to; 0 is no refusal.
-fn check(met: bool, number: u32, rest: u32) -> u32
-    ensures { λ r. ⌜ r ≡ cond met rest number ⌝ }
-{
-    if met { rest } else { number }
-}
-
-// Whether a number names an order line of a list with so many orders: the first stands on line 2.
-fn names_order(order: u32, count: usize) -> bool
-    requires { ⌜ count ≤ mostOrders ⌝ }
-    ensures { λ r. ⌜ r ≡ within firstOrderLine (suc count) order ⌝ }
-{
-    (FIRST_ORDER_LINE <= order) & (order as usize <= count + 1)
-}
-
-// The place of an order among those of its list.
-fn place_of(order: u32) -> usize
-    ensures { λ r. ⌜ r ≡ order - firstOrderLine ⌝ }
-{
-    if order < FIRST_ORDER_LINE {
-        return 0;
-    }
-    (order - FIRST_ORDER_LINE) as usize
-}
-
-// The refusal of a load, from 11 to 14, 0 where there is none.
-fn load_refusal(load: Load, run: u32, readies: &[u32], dues: &[u32], lines: &[u32]) -> u32
-    requires { ⌜ length (now readies) ≤ mostOrders ⌝ }
-    ensures { λ r. ⌜ r ≡ numberOf (loadMarked run (now (readies .entry)) (now (dues .entry)) (now (lines .entry)) load) ⌝ }
-{
-    let place = place_of(load.order);
-    let ready = hour_at(readies, place);
-    let due = hour_at(dues, place);
-    let named = names_order(load.order, readies.len());
-    let alone = hour_at(lines, place) == 0;
-    let waited = ready <= load.start;
-    let ended = load.start as u64 + run as u64 <= due as u64;
-    check(
-        named,
-        11,
-        check(alone, 12, check(waited, 13, check(ended, 14, 0))),
-    )
-}
-
 // A load that reads, checked up to refusal 14.
 fn checked(load: Load, run: u32, readies: &[u32], dues: &[u32], lines: &[u32]) -> LoadNoted
-    requires { ⌜ length (now readies) ≤ mostOrders ⌝ }
     ensures { λ r. ⌜ r ≡ record { refusal = numberOf (loadMarked run (now (readies .entry)) (now (dues .entry)) (now (lines .entry)) load); load = load } ⌝ }
 {
     LoadNoted {
@@ -242,7 +188,6 @@ fn note_load(
     dues: &[u32],
     lines: &[u32],
 ) -> LoadNoted
-    requires { ⌜ length (now readies) ≤ mostOrders ⌝ }
     ensures { λ r. ⌜ Loaded chambers run (now (readies .entry)) (now (dues .entry)) (now (lines .entry)) (now (line .entry)) r ⌝ }
 {
     match read_load(line, chambers) {
@@ -256,18 +201,6 @@ fn note_load(
             },
         },
     }
-}
-
-// Whether two loads overlap: they stand in one chamber, and each starts before the other ends.
-fn overlap(hold: u32, chamber: u32, start: u32, other: u32, begins: u32) -> bool
-    ensures { λ r. ⌜ r ≡ overlap hold chamber start other begins ⌝ }
-{
-    if chamber != other {
-        return false;
-    }
-    let before = (start as u64) < begins as u64 + hold as u64;
-    let behind = (begins as u64) < start as u64 + hold as u64;
-    before & behind
 }
 
 // The fault of a plan line.

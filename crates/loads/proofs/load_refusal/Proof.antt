@@ -1,10 +1,10 @@
 -- `load_refusal` is the number that the checks from 11 to 14 come to in the paper's order.
 use Rattle.ground.proofs.Refusal.{number-of-check}
-use Rattle.plans.specs.Steps.{loadMarked}
-use Rattle.plans.proofs.Loading.{number-of-last-check}
+use Rattle.loads.specs.Checks.{loadMarked}
+use Rattle.loads.proofs.Checks.{number-of-last-check}
 use borrow.Author.Needs.{needs}
-use Rattle.plans.proofs.load_refusal.Statement.{statement}
-use Rattle.plans.proofs.load_refusal.Tie as tie
+use Rattle.loads.proofs.load_refusal.Statement.{statement}
+use Rattle.loads.proofs.load_refusal.Tie as tie
 
 place-of-requires : tie.Need-place-of-requires
 place-of-requires c κs = search needs

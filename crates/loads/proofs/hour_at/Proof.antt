@@ -1,10 +1,10 @@
 -- `hour_at` reads within the hours, and past them there is none.
 use mathlib.Core.Path.{sym}
 use native.Mathlib.Omega.{arith}
-use Rattle.plans.proofs.Loading.{getD-past}
+use Rattle.loads.proofs.Checks.{getD-past}
 use borrow.Author.Needs.{needs}
-use Rattle.plans.proofs.hour_at.Statement.{statement}
-use Rattle.plans.proofs.hour_at.Tie as tie
+use Rattle.loads.proofs.hour_at.Statement.{statement}
+use Rattle.loads.proofs.hour_at.Tie as tie
 
 mul-result : tie.Need-mul-result
 mul-result c = search needs

@@ -2,8 +2,8 @@
 use native.Mathlib.Omega.{arith}
 use borrow.Author.Tests.{eq-eqb, ne-eqb}
 use borrow.Author.Needs.{needs}
-use Rattle.plans.proofs.overlap.Statement.{statement}
-use Rattle.plans.proofs.overlap.Tie as tie
+use Rattle.loads.proofs.overlap.Statement.{statement}
+use Rattle.loads.proofs.overlap.Tie as tie
 
 returns : tie.Need-returns
 returns c = let a = c .before .args in rw (ne-eqb (a .chamber) (a .other) (λ same. omega (arith, c .if1 .taken)))
