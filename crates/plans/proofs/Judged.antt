@@ -24,7 +24,8 @@ use Rattle.texts.proofs.Lines.{line-within}
 use Rattle.texts.proofs.Promises.{lines-joined, walk-on, walk-done}
 use Rattle.lines.proofs.Promises.{heading-fault}
 use Rattle.orders.specs.Answers.{orderLines}
-use Rattle.plans.specs.Judging.{faultAt, listJudged, planJudged, loadsCounted, bothJudged, judged, partOf, shown}
+use Rattle.plans.specs.Judging.{faultAt, listJudged, planJudged, loadsCounted, bothJudged, judged, shown}
+use Rattle.texts.specs.Lines.{partOf}
 use Rattle.plans.specs.Meaning.{CleanList, GoodLoads, Obeys, FirstFault, list-long, plan-long, in-heading, in-list, in-plan}
 use Rattle.plans.specs.declared.Fault.{Fault}
 use Rattle.plans.proofs.Each.{each-none, two-none}

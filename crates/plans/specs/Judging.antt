@@ -1,13 +1,13 @@
 -- How a plan is judged: "The checker is lent an order list and a plan, made by whoever … The first fault is the answer, with its number, which text, its line number, and the line at fault". Assumes nothing.
 use Prim.Native.Nat.{ℕ, suc, _+_, _-_}
-use mathlib.Core.Bool.{Bool, true, false, not, cond, _&&_, _||_}
+use mathlib.Core.Bool.{Bool, true, false, not, cond, _||_}
 use mathlib.Core.List.{List, [], _∷_, _++_}
-use lib.ListN.{length, getD, take, drop}
+use lib.ListN.{length, getD}
 use lib.Dec.{leb, eqb}
 use Rattle.ground.specs.Refusal.{Or, Read, wrong, right, check, _>>=_, _>>_}
 use Rattle.ground.specs.Range.{within}
 use Rattle.ground.specs.Limits.{longestText}
-use Rattle.texts.specs.Lines.{linesOf, lineAt, pastLine}
+use Rattle.texts.specs.Lines.{linesOf, lineAt, pastLine, partOf}
 use Rattle.lines.specs.Reading.{headingOf, orderOf, loadOf}
 use Rattle.lines.specs.Writing.{firstOrderLine}
 use Rattle.lines.specs.declared.reading.Heading.{Heading}
@@ -130,10 +130,6 @@ judged list plan = do
 abbrev pub asJudged : Judgement → Or Fault ℕ
 asJudged (judgement.Right count) = right count
 asJudged (judgement.Wrong fault) = wrong fault
-
--- a part of a text; the empty front where these are no places of it in order
-unfoldable pub partOf : List ℕ → ℕ → ℕ → List ℕ
-partOf text from to = cond (leb from to && leb to (length text)) (take (to - from) (drop from text)) []
 
 -- "the line at fault shown as a part of the text it stands in"
 unfoldable pub shown : Fault → List ℕ → List ℕ → List ℕ

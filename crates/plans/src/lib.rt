@@ -11,7 +11,7 @@ ghost use Rattle.texts.specs.Lines.{linesOf, lineAt};
 ghost use Rattle.lines.specs.Reading.{headingOf};
 ghost use Rattle.book.specs.Taking.{told};
 ghost use Rattle.loads.specs.Checks.{loadMarked};
-ghost use Rattle.plans.specs.Judging.{through, noteOrder, loadsCounted, bothJudged, judged, asJudged, partOf, shown};
+ghost use Rattle.plans.specs.Judging.{through, noteOrder, loadsCounted, bothJudged, judged, asJudged, shown};
 ghost use Rattle.plans.specs.Steps.{orderGiven, Noted, Loaded, OrdersAre};
 use book::Answer;
 use book::Book;
@@ -31,6 +31,7 @@ use loads::overlap;
 use loads::place_of;
 use texts::line_at;
 use texts::line_end;
+use texts::part;
 
 // How many orders a list can have, and so how many loads a plan.
 const ORDERS: usize = MOST_ORDERS as usize;
@@ -321,18 +322,6 @@ pub fn judge(list: &[u8], plan: &[u8]) -> Judgement
         HeadingRead::Read(heading) => judge_with(list, plan, heading),
         HeadingRead::Refused(number) => list_fault(number, 1, line_end(list, 0)),
     }
-}
-
-// A part of a text; the empty front where these are no places of it in order.
-fn part<'a>(text: &'a [u8], from: usize, to: usize) -> &'a [u8]
-    ensures { λ r. ⌜ now r ≡ partOf (now (text .entry)) from to ⌝ }
-{
-    if from <= to {
-        if to <= text.len() {
-            return &text[from..to];
-        }
-    }
-    &text[..0]
 }
 
 // The line at fault, as a part of the text that it stands in.

@@ -6,7 +6,7 @@ use lib.ListN.{length, drop}
 use denote.Ref.{RefT, now}
 use Rattle.ground.specs.Outcome.{Single}
 use Rattle.ground.proofs.Outcome.{single-value}
-use Rattle.texts.specs.Lines.{linesOf, lineAt, pastLine}
+use Rattle.texts.specs.Lines.{linesOf, lineAt, pastLine, partOf}
 use Rattle.texts.specs.Meaning.{joined, AreLines}
 use Rattle.texts.specs.declared.Walk.{Walk}
 use Rattle.texts.proofs.WholeText as whole
@@ -59,3 +59,6 @@ next-single walk one other p q =
     let lines : one .0 ≡ other .0 = p .0 ∙ sym (q .0) in
     let walks : one .1 ≡ other .1 = same-walk (walk .text) (pastLine (now (walk .text)) (walk .at)) (one .1) (other .1) (p .1, p .2) (q .1, q .2) in
     λ i. (lines i, walks i)
+
+pub part-single : (text : List ℕ) (from to : ℕ) → Single (λ part. part ≡ partOf text from to)
+part-single text from to = single-value (partOf text from to)

@@ -1,9 +1,9 @@
 -- "Each line ends with byte 10. Bytes after the last byte 10, if there are any, count as a line": a text as its lines, and the line at a place. Assumes nothing.
-use Prim.Native.Nat.{ℕ, suc, _+_}
-use mathlib.Core.Bool.{cond}
+use Prim.Native.Nat.{ℕ, suc, _+_, _-_}
+use mathlib.Core.Bool.{cond, _&&_}
 use mathlib.Core.List.{List, [], _∷_}
-use lib.ListN.{take, drop}
-use lib.Dec.{eqb}
+use lib.ListN.{length, take, drop}
+use lib.Dec.{leb, eqb}
 
 -- the byte that ends a line
 abbrev pub lineEnd : ℕ
@@ -30,3 +30,7 @@ lineAt text at = take (lineLength (drop at text)) (drop at text)
 
 unfoldable pub pastLine : List ℕ → ℕ → ℕ
 pastLine text at = at + lineLength (drop at text)
+
+-- a part of a text; the empty front where these are no places of it in order
+unfoldable pub partOf : List ℕ → ℕ → ℕ → List ℕ
+partOf text from to = cond (leb from to && leb to (length text)) (take (to - from) (drop from text)) []

@@ -1,7 +1,7 @@
 // A text as lines: the line at a place, and the walk that hands out one line after another.
 // Any bytes and any place may come. Assumes nothing.
 ghost use mathlib.Core.Path.{_≡_};
-ghost use Rattle.texts.specs.Lines.{lineAt, pastLine};
+ghost use Rattle.texts.specs.Lines.{lineAt, pastLine, partOf};
 
 // The place past the line that starts at a place; the place itself where none is left.
 pub fn line_end(text: &[u8], at: usize) -> usize
@@ -15,6 +15,18 @@ pub fn line_end(text: &[u8], at: usize) -> usize
         end += 1;
     }
     end
+}
+
+// A part of a text; the empty front where these are no places of it in order.
+pub fn part<'a>(text: &'a [u8], from: usize, to: usize) -> &'a [u8]
+    ensures { λ r. ⌜ now r ≡ partOf (now (text .entry)) from to ⌝ }
+{
+    if from <= to {
+        if to <= text.len() {
+            return &text[from..to];
+        }
+    }
+    &text[..0]
 }
 
 // The line that starts at a place, its end included where there is one; empty where none is left.

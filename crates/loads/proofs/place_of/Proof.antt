@@ -1,6 +1,5 @@
 -- `place_of` counts from the first order line; a line before it has place 0.
 use native.Mathlib.Omega.{arith}
-use borrow.Author.Needs.{needs}
 use Rattle.loads.proofs.place_of.Statement.{statement}
 use Rattle.loads.proofs.place_of.Tie as tie
 
