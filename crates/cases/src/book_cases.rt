@@ -1,126 +1,52 @@
-// The book: books opened, orders given to books of every kind, and orders one after another.
-use crate::print;
+// The cases of the book: a book opened, and an order given to a book of any kind.
+// Any numbers may come. Assumes nothing.
+use crate::results;
+use crate::words::MOST_NUMBERS;
 use book::Answer;
 use book::Book;
 
-pub(crate) fn all() {
-    open_books();
-    either_side();
-    wrong_orders();
-    unsound_books();
-    one_after_another();
-}
-
-fn open_books() {
-    open(1, 1);
-    open(8, 9_999);
-    open(0, 300);
-    open(9, 300);
-    open(2, 0);
-    open(2, 10_000);
-    open(4_294_967_295, 4_294_967_295);
-}
-
-// Two chambers, run 300, with these free hours, clock and counts.
-fn two(one: u32, other: u32, clock: u32, taken: u32, kept: u32) -> Book {
-    Book {
-        chambers: 2,
-        run: 300,
-        clock,
-        taken,
-        kept,
-        free: [one, other, 0, 0, 0, 0, 0, 0],
-    }
-}
-
-fn either_side() {
-    take(two(0, 0, 0, 0, 0), 0, 300);
-    take(two(0, 0, 0, 0, 0), 0, 299);
-    take(two(300, 0, 0, 0, 0), 100, 600);
-    take(two(300, 0, 0, 0, 0), 100, 599);
-    take(two(300, 0, 0, 0, 0), 300, 900);
-    take(two(300, 400, 0, 0, 0), 700, 1000);
-    take(two(300, 400, 0, 0, 0), 700, 999);
-}
-
-fn wrong_orders() {
-    take(two(0, 0, 500, 3, 2), 500, 800);
-    take(two(0, 0, 500, 3, 2), 499, 800);
-    take(two(0, 0, 500, 511, 2), 500, 800);
-    take(two(0, 0, 500, 512, 2), 499, 800);
-    take(two(0, 0, 0, 0, 0), 1_000_000, 0);
-    take(two(0, 0, 0, 512, 0), 0, 1_000_000);
-    take(two(0, 0, 0, 0, 0), 999_999, 999_999);
-    take(two(0, 0, 0, 0, 0), 999_699, 999_999);
-    take(two(0, 0, 0, 0, 0), 4_294_967_295, 4_294_967_295);
-}
-
-// The first is sound, at every limit.
-fn unsound_books() {
-    take(two(999_999, 0, 999_999, 512, 512), 1_000_000, 0);
-    take(two(1_000_000, 0, 0, 0, 0), 0, 300);
-    take(two(0, 0, 1_000_000, 0, 0), 0, 300);
-    take(two(0, 0, 0, 513, 0), 0, 300);
-    take(two(0, 0, 0, 1, 2), 1_000_000, 300);
-}
-
-fn one_after_another() {
-    let opened = Book::open(2, 700);
-    let first = take(opened.book, 0, 700);
-    let second = take(first, 100, 1_500);
-    let third = take(second, 100, 1_400);
-    let fourth = take(third, 100, 1_000);
-    let fifth = take(fourth, 99, 9_999);
-    take(fifth, 800, 9_999);
-}
-
-fn open(chambers: u32, run: u32) {
-    io::write_all(1, b"open");
-    print::number(chambers);
-    print::number(run);
+pub(crate) fn open(chambers: u32, run: u32) {
     let opened = Book::open(chambers, run);
-    print::number(opened.refusal);
+    results::numbers(&[opened.refusal]);
     held(opened.book);
 }
 
-// An order, its answer and the next book.
-fn take(book: Book, ready: u32, due: u32) -> Book {
-    io::write_all(1, b"take");
-    print::number(ready);
-    print::number(due);
-    let taken = book.take(ready, due);
+// The numbers are those of a book, with the free hours of eight chambers, and then an order's hours.
+pub(crate) fn take(numbers: [u32; MOST_NUMBERS]) {
+    let book = Book {
+        chambers: numbers[0],
+        run: numbers[1],
+        clock: numbers[2],
+        taken: numbers[3],
+        kept: numbers[4],
+        free: [
+            numbers[5],
+            numbers[6],
+            numbers[7],
+            numbers[8],
+            numbers[9],
+            numbers[10],
+            numbers[11],
+            numbers[12],
+        ],
+    };
+    let taken = book.take(numbers[13], numbers[14]);
     let answer = taken.answer;
-    let next = taken.book;
     answered(answer);
-    held(next);
-    next
+    held(taken.book);
 }
 
 fn answered(answer: Answer) {
     match answer {
-        Answer::Yes { chamber, start } => {
-            io::write_all(1, b"\tyes");
-            print::number(chamber);
-            print::number(start);
-        }
-        Answer::No => {
-            io::write_all(1, b"\tno");
-        }
-        Answer::Refused(number) => {
-            io::write_all(1, b"\tbad");
-            print::number(number);
-        }
+        Answer::Yes { chamber, start } => results::named(b"yes", &[chamber, start]),
+        Answer::No => results::word(b"no"),
+        Answer::Refused(number) => results::refused(number),
     }
 }
 
-// What a book holds; of its free hours the first two and the last.
+// What a book holds.
 fn held(book: Book) {
-    print::number(book.chambers);
-    print::number(book.run);
-    print::number(book.clock);
-    print::number(book.taken);
-    print::number(book.kept);
-    print::number(book.free[0]);
-    print::number(book.free[1]);
-    print::end_line(b"\t", book.free[7]);
+    let free = book.free;
+    results::numbers(&[book.chambers, book.run, book.clock, book.taken, book.kept]);
+    results::numbers(&free);
 }

@@ -1,12 +1,12 @@
--- `text` ends: a byte less is left at each turn.
-use Prim.Native.Nat.{_-_, _≤_}
+-- `part_of_text` ends: a byte less is left at each turn.
+use Prim.Native.Nat.{_-_}
 use borrow.Author.Needs.{needs}
 use lib.ListN.{length}
-use Rattle.cases.proofs.print.text.Statement.{statement}
-use Rattle.cases.proofs.print.text.Tie as tie
+use Rattle.cases.proofs.results.part_of_text.Statement.{statement}
+use Rattle.cases.proofs.results.part_of_text.Tie as tie
 
 abbrev Inv-loop : tie.InvT-loop
-Inv-loop bytes at₀ at = at ≤ length bytes
+Inv-loop bytes at₀ at = Unit {0}
 
 abbrev μ-loop : tie.MeasureT-loop
 μ-loop bytes at₀ at = length bytes - at
@@ -32,8 +32,8 @@ loop-again c = search needs
 returns : tie.Need-returns Inv-loop μ-loop
 returns c = search needs
 
-pub text-spec : {M : Type 1} → statement M
-text-spec =
+pub part-of-text-spec : {M : Type 1} → statement M
+part-of-text-spec =
     tie.close
     (tie.spec
     Inv-loop
