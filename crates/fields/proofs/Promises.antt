@@ -7,7 +7,7 @@ use mathlib.Core.Logic.{_↔_}
 use Rattle.ground.specs.Refusal.{right}
 use Rattle.ground.specs.Outcome.{Single}
 use Rattle.ground.proofs.Outcome.{single-value}
-use Rattle.fields.specs.Fields.{isEnded, fieldsOf, field, afterField, fieldCount, sameBytes, shapeOf}
+use Rattle.fields.specs.Fields.{isEnded, fieldsOf, field, behind, fieldCount, sameBytes, shapeOf}
 use Rattle.fields.specs.Meaning.{Splits, HasFields}
 use Rattle.fields.proofs.Words as words
 use Rattle.fields.proofs.Splits as splits
@@ -27,11 +27,11 @@ same-exactly = words.same-exactly
 pub field-count-single : (line : List ℕ) → Single (λ count. count ≡ fieldCount line)
 field-count-single line = single-value (fieldCount line)
 
-pub field-at-single : (line : List ℕ) (place : ℕ) → Single (λ text. text ≡ field place line)
-field-at-single line place = single-value (field place line)
+pub first-field-single : (line : List ℕ) → Single (λ text. text ≡ field 0 line)
+first-field-single line = single-value (field 0 line)
 
-pub after-field-single : (line : List ℕ) → Single (λ rest. rest ≡ afterField line)
-after-field-single line = single-value (afterField line)
+pub behind-single : (line : List ℕ) (end : ℕ) → Single (λ rest. rest ≡ behind line end)
+behind-single line end = single-value (behind line end)
 
 pub same-bytes-single : (one other : List ℕ) → Single (λ same. same ≡ sameBytes one other)
 same-bytes-single one other = single-value (sameBytes one other)

@@ -1,5 +1,5 @@
 -- Laws of the fields of a line: how they are found byte after byte, and one behind the other. Assumes nothing.
-use Prim.Native.Nat.{ℕ, zero, suc, _+_, _-_, _≤_, _<_}
+use Prim.Native.Nat.{ℕ, zero, suc, _+_, _≤_, _<_}
 use mathlib.Core.Path.{_≡_, refl, sym, ap, _∙_}
 use mathlib.Core.Bool.{Bool, true, false, cond}
 use mathlib.Core.List.{List, [], _∷_}
@@ -15,7 +15,7 @@ use Rattle.hours.specs.Classes.{comma, classOf}
 use Rattle.hours.specs.declared.Class.{Class}
 use Rattle.hours.specs.declared.Class.the-variants.{Digit, Mark, Tab, LineEnd, Foreign}
 use Rattle.texts.specs.Lines.{lineEnd, before}
-use Rattle.fields.specs.Fields.{tab, isNone, isEnded, fieldsOf, field, afterField}
+use Rattle.fields.specs.Fields.{tab, isNone, isEnded, fieldsOf, field, behind}
 use Rattle.fields.specs.Steps.{endsField, endsLine, tabsIn}
 
 -- a class that neither ends a field nor counts as a tab
@@ -117,54 +117,33 @@ field-front (byte ∷ rest) = go (seen byte) (field-front rest)
 pub field-within : (line : List ℕ) → length (field 0 line) ≤ length line
 field-within line = omega (arith, simp length-take at (ap length (field-front line)))
 
--- What stands behind the first field: all that follows its tab, or nothing.
-after-at-other : (byte : ℕ) (rest : List ℕ) → eqb byte tab ≡ false → eqb byte lineEnd ≡ false → afterField (byte ∷ rest) ≡ afterField rest
-unfolding afterField
-after-at-other byte rest other goes = rw (other, goes)
-
-pub after-tab : (line : List ℕ) → getD line (length (field 0 line)) 0 ≡ tab → afterField line ≡ drop (length (field 0 line) + 1) line
-unfolding fieldsOf afterField
-after-tab [] found = refl
-after-tab (byte ∷ rest) found = go (seen byte) (after-tab rest) found
-  where
-    go :
-        Seen byte → (getD rest (length (field 0 rest)) 0 ≡ tab → afterField rest ≡ drop (length (field 0 rest) + 1) rest)
-        → getD (byte ∷ rest) (length (field 0 (byte ∷ rest))) 0 ≡ tab → afterField (byte ∷ rest) ≡ drop (length (field 0 (byte ∷ rest)) + 1) (byte ∷ rest)
-    go (a-tab here class) more found = rw (fields-at-tab byte rest here, here)
-    go (an-end here class) more found = absurd (omega (arith, rw (fields-at-end byte rest here) at found))
-    go (another other goes class) more found =
-        rw (after-at-other byte rest other goes, fields-at-other byte rest other goes, before-first, add-one)
-        (more (rw (fields-at-other byte rest other goes, before-first) at found) ∙ rw add-one refl)
-
-pub after-none : (line : List ℕ) → (getD line (length (field 0 line)) 0 ≡ tab → ⊥) → afterField line ≡ []
-unfolding fieldsOf afterField
-after-none [] none = refl
-after-none (byte ∷ rest) none = go (seen byte) (after-none rest) none
-  where
-    go :
-        Seen byte → ((getD rest (length (field 0 rest)) 0 ≡ tab → ⊥) → afterField rest ≡ [])
-        → (getD (byte ∷ rest) (length (field 0 (byte ∷ rest))) 0 ≡ tab → ⊥) → afterField (byte ∷ rest) ≡ []
-    go (a-tab here class) more none = absurd (none (rw (fields-at-tab byte rest here) here))
-    go (an-end here class) more none = rw here
-    go (another other goes class) more none =
-        after-at-other byte rest other goes ∙ more (λ found. none (rw (fields-at-other byte rest other goes, before-first) found))
-
--- a later field of a line is one sooner in what stands behind the first
+-- no bytes have no field but empty ones
 field-past : (place : ℕ) → field place [] ≡ []
 unfolding fieldsOf
 field-past zero = refl
 field-past (suc place) = refl
 
-pub field-later : (line : List ℕ) (place : ℕ) → field (suc place) line ≡ field place (afterField line)
-unfolding fieldsOf afterField
-field-later [] place = sym (field-past place)
-field-later (byte ∷ rest) place = go (seen byte) (field-later rest place)
+-- a later field of a line is one sooner in what stands behind the first
+pub field-behind : (line : List ℕ) (place : ℕ) → field (suc place) line ≡ field place (behind line (length (field 0 line)))
+unfolding fieldsOf behind
+field-behind [] place = sym (field-past place)
+field-behind (byte ∷ rest) place = go (seen byte) (field-behind rest place)
   where
-    go : Seen byte → field (suc place) rest ≡ field place (afterField rest) → field (suc place) (byte ∷ rest) ≡ field place (afterField (byte ∷ rest))
+    go :
+        Seen byte → field (suc place) rest ≡ field place (behind rest (length (field 0 rest)))
+        → field (suc place) (byte ∷ rest) ≡ field place (behind (byte ∷ rest) (length (field 0 (byte ∷ rest))))
     go (a-tab here class) more = rw (fields-at-tab byte rest here, here)
     go (an-end here class) more = rw (fields-at-end byte rest here, here) (sym (field-past place))
-    go (another other goes class) more =
-        rw (fields-at-other byte rest other goes, before-later, after-at-other byte rest other goes) more
+    go (another other goes class) more = rw (fields-at-other byte rest other goes, before-later, before-first) more
+
+-- three fields, each found behind the one before, are the first three of the line
+pub three-found :
+    (line : List ℕ) {one rest two further last : List ℕ} → one ≡ field 0 line → rest ≡ behind line (length one) → two ≡ field 0 rest
+    → further ≡ behind rest (length two) → last ≡ field 0 further → (two ≡ field 1 line) × (last ≡ field 2 line)
+three-found line first behind-one second behind-two third = (
+  rw (second, behind-one, first, field-behind line 0),
+  rw (third, behind-two, second, behind-one, first, field-behind line 1, field-behind (behind line (length (field 0 line))) 0),
+)
 
 -- Counting: a line that ends here has the fields counted so far, where nothing follows; a tab is one field more.
 none-is : (line : List ℕ) (at : ℕ) → at < length line → isNone (drop (at + 1) line) ≡ eqb (at + 1) (length line)
@@ -221,7 +200,3 @@ tabs-most Mark = omega arith
 tabs-most Tab = omega arith
 tabs-most LineEnd = omega arith
 tabs-most Foreign = omega arith
-
-pub field-next : (line : List ℕ) (place : ℕ) → (place ≡ 0 → ⊥) → field (place - 1) (afterField line) ≡ field place line
-field-next line zero some = absurd (some refl)
-field-next line (suc place) some = let e : suc place - 1 ≡ place = omega arith in rw e (sym (field-later line place))

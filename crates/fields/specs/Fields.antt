@@ -1,8 +1,8 @@
 -- A line as fields split at tabs, for any number of fields. Assumes nothing.
-use Prim.Native.Nat.{ℕ}
+use Prim.Native.Nat.{ℕ, suc}
 use mathlib.Core.Bool.{Bool, true, false, cond, _&&_}
 use mathlib.Core.List.{List, [], _∷_}
-use lib.ListN.{length, getD}
+use lib.ListN.{length, getD, drop}
 use lib.Dec.{eqb}
 use Rattle.ground.specs.Refusal.{Read, check}
 use Rattle.texts.specs.Lines.{lineEnd, before}
@@ -37,10 +37,9 @@ fieldsOf (byte ∷ rest) = cond (eqb byte tab) ([] ∷ fieldsOf rest) (cond (eqb
 abbrev pub field : ℕ → List ℕ → List ℕ
 field place line = getD (fieldsOf line) place []
 
--- what stands behind the first field and its tab; nothing where it is the last
-unfoldable pub afterField : List ℕ → List ℕ
-afterField [] = []
-afterField (byte ∷ rest) = cond (eqb byte tab) rest (cond (eqb byte lineEnd) [] (afterField rest))
+-- what stands behind a place of a line and the tab there; nothing where no tab stands there
+unfoldable pub behind : List ℕ → ℕ → List ℕ
+behind line end = cond (eqb (getD line end 0) tab) (drop (suc end) line) []
 
 -- how many fields a line has; none where it is not ended
 unfoldable pub fieldCount : List ℕ → ℕ

@@ -1,10 +1,10 @@
-// A line as fields, cut at tabs: how many there are, the first one, and what stands behind it.
+// A line as fields, cut at tabs: how many there are, the first one, and what stands behind a tab.
 // Any bytes may come; what is no single ended line has no field. Assumes nothing.
 ghost use mathlib.Core.Path.{_≡_};
 ghost use mathlib.Core.Bool.{cond};
 ghost use lib.ListN.{length};
 ghost use lib.Dec.{eqb};
-ghost use Rattle.fields.specs.Fields.{field, afterField, fieldCount, sameBytes};
+ghost use Rattle.fields.specs.Fields.{field, behind, fieldCount, sameBytes};
 ghost use Rattle.fields.specs.Steps.{endsField, endsLine, tabsIn};
 use hours::Class;
 
@@ -93,11 +93,10 @@ pub fn first_field<'a>(line: &'a [u8]) -> &'a [u8]
     &line[..end]
 }
 
-// What stands behind the first field and its tab; nothing where it is the last.
-pub fn after_field<'a>(line: &'a [u8]) -> &'a [u8]
-    ensures { λ r. ⌜ now r ≡ afterField (now (line .entry)) ⌝ }
+// What stands behind a place of a line and the tab there; nothing where no tab stands there.
+pub fn behind<'a>(line: &'a [u8], end: usize) -> &'a [u8]
+    ensures { λ r. ⌜ now r ≡ behind (now (line .entry)) end ⌝ }
 {
-    let end = field_end(line);
     if line.len() <= end {
         return &line[..0];
     }
@@ -106,16 +105,6 @@ pub fn after_field<'a>(line: &'a [u8]) -> &'a [u8]
     }
     let next = end + 1;
     &line[next..]
-}
-
-// One of a line's fields, from 0 on; the empty one where there are fewer.
-pub fn field_at<'a>(line: &'a [u8], place: usize) -> &'a [u8]
-    ensures { λ r. ⌜ now r ≡ field place (now (line .entry)) ⌝ }
-{
-    if place == 0 {
-        return first_field(line);
-    }
-    field_at(after_field(line), place - 1)
 }
 
 // Whether two texts are the same, byte for byte.

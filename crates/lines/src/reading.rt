@@ -4,7 +4,7 @@ ghost use mathlib.Core.Path.{_≡_};
 ghost use mathlib.Core.Bool.{not};
 ghost use lib.Dec.{eqb};
 ghost use Rattle.ground.specs.Refusal.{right};
-ghost use Rattle.fields.specs.Fields.{field, fieldCount};
+ghost use Rattle.fields.specs.Fields.{fieldCount};
 ghost use Rattle.lines.specs.Reading.{steamAt, ranged, plainWithin, hourWithin, headingOf, orderOf, loadOf, asHeading, asOrder, asLoad};
 ghost use Rattle.lines.specs.Steps.{threeOf, asField, asThree};
 use ground::LAST_HOUR;
@@ -87,21 +87,21 @@ fn ranged(number: u32, low: u32, high: u32) -> FieldRead
     FieldRead::Number(number)
 }
 
-// A field of a line as a plain number in a range.
-fn plain_at(line: &[u8], place: usize, low: u32, high: u32) -> FieldRead
-    ensures { λ r. ⌜ asField r ≡ plainWithin low high (field place (now (line .entry))) ⌝ }
+// A field as a plain number in a range.
+fn plain_in(field: &[u8], low: u32, high: u32) -> FieldRead
+    ensures { λ r. ⌜ asField r ≡ plainWithin low high (now (field .entry)) ⌝ }
 {
-    match hours::read_plain(fields::field_at(line, place)) {
+    match hours::read_plain(field) {
         PlainRead::Number(number) => ranged(number, low, high),
         PlainRead::Refused(number) => FieldRead::Refused(number),
     }
 }
 
-// A field of a line as an hour in a range.
-fn hour_at(line: &[u8], place: usize, low: u32, high: u32) -> FieldRead
-    ensures { λ r. ⌜ asField r ≡ hourWithin low high (field place (now (line .entry))) ⌝ }
+// A field as an hour in a range.
+fn hour_in(field: &[u8], low: u32, high: u32) -> FieldRead
+    ensures { λ r. ⌜ asField r ≡ hourWithin low high (now (field .entry)) ⌝ }
 {
-    match hours::read_hour(fields::field_at(line, place)) {
+    match hours::read_hour(field) {
         HourRead::Hour(hour) => ranged(hour, low, high),
         HourRead::Refused(number) => FieldRead::Refused(number),
     }
@@ -146,11 +146,11 @@ fn three_last(first: u32, second: u32, third: FieldRead) -> ThreeRead
     }
 }
 
-// The word of a list's first line at the front of a line, or refusal 1.
-fn steam_at(line: &[u8]) -> FieldRead
-    ensures { λ r. ⌜ asField r ≡ steamAt (field 0 (now (line .entry))) ⌝ }
+// The word of a list's first line, or refusal 1.
+fn steam_in(field: &[u8]) -> FieldRead
+    ensures { λ r. ⌜ asField r ≡ steamAt (now (field .entry)) ⌝ }
 {
-    if fields::same_bytes(fields::field_at(line, 0), b"steam") {
+    if fields::same_bytes(field, b"steam") {
         return FieldRead::Number(0);
     }
     FieldRead::Refused(1)
@@ -163,10 +163,13 @@ pub fn read_heading(line: &[u8]) -> HeadingRead
     if is_misshapen(line) {
         return HeadingRead::Refused(1);
     }
-    let rest = fields::after_field(line);
-    let chambers = plain_at(rest, 0, 1, MOST_CHAMBERS);
-    let run = hour_at(rest, 1, 1, LONGEST_RUN);
-    match three_of(steam_at(line), chambers, run) {
+    let one = fields::first_field(line);
+    let rest = fields::behind(line, one.len());
+    let two = fields::first_field(rest);
+    let last = fields::first_field(fields::behind(rest, two.len()));
+    let chambers = plain_in(two, 1, MOST_CHAMBERS);
+    let run = hour_in(last, 1, LONGEST_RUN);
+    match three_of(steam_in(one), chambers, run) {
         ThreeRead::Numbers(read) => HeadingRead::Read(Heading {
             chambers: read.second,
             run: read.third,
@@ -182,10 +185,13 @@ pub fn read_order(line: &[u8]) -> OrderRead
     if is_misshapen(line) {
         return OrderRead::Refused(1);
     }
-    let rest = fields::after_field(line);
-    let ready = hour_at(rest, 0, 0, LAST_HOUR);
-    let due = hour_at(rest, 1, 0, LAST_HOUR);
-    match three_of(plain_at(line, 0, 1, LAST_GROWER), ready, due) {
+    let one = fields::first_field(line);
+    let rest = fields::behind(line, one.len());
+    let two = fields::first_field(rest);
+    let last = fields::first_field(fields::behind(rest, two.len()));
+    let ready = hour_in(two, 0, LAST_HOUR);
+    let due = hour_in(last, 0, LAST_HOUR);
+    match three_of(plain_in(one, 1, LAST_GROWER), ready, due) {
         ThreeRead::Numbers(read) => OrderRead::Read(Order {
             grower: read.first,
             ready: read.second,
@@ -202,10 +208,13 @@ pub fn read_load(line: &[u8], count: u32) -> LoadRead
     if is_misshapen(line) {
         return LoadRead::Refused(1);
     }
-    let rest = fields::after_field(line);
-    let chamber = plain_at(rest, 0, 1, count);
-    let start = hour_at(rest, 1, 0, LAST_HOUR);
-    match three_of(plain_at(line, 0, 0, LAST_PLAIN), chamber, start) {
+    let one = fields::first_field(line);
+    let rest = fields::behind(line, one.len());
+    let two = fields::first_field(rest);
+    let last = fields::first_field(fields::behind(rest, two.len()));
+    let chamber = plain_in(two, 1, count);
+    let start = hour_in(last, 0, LAST_HOUR);
+    match three_of(plain_in(one, 0, LAST_PLAIN), chamber, start) {
         ThreeRead::Numbers(read) => LoadRead::Read(Load {
             order: read.first,
             chamber: read.second,

@@ -9,7 +9,7 @@ use Rattle.fields.specs.Fields.{field}
 use Rattle.lines.specs.Reading.{loadOf, plainWithin}
 use Rattle.lines.specs.declared.reading.Load.{Load}
 use Rattle.lines.specs.Steps.{asThree}
-use Rattle.fields.proofs.Splitting.{field-later}
+use Rattle.fields.proofs.Splitting.{three-found}
 use Rattle.lines.proofs.LineReading.{shape-failed, shape-tested, made-of-line, any-hour, any-plain}
 use Rattle.lines.proofs.reading.read_load.Statement.{statement}
 use Rattle.lines.proofs.reading.read_load.Tie as tie
@@ -25,17 +25,29 @@ returns : tie.Need-returns
 unfolding loadOf
 returns c = rw (shape-failed _ (sym (c .before .is-misshapen .ensures) ∙ c .if1 .taken))
 
-after-field-requires : tie.Need-after-field-requires
-after-field-requires c κs = search needs
+first-field-requires : tie.Need-first-field-requires
+first-field-requires c κs = search needs
 
-plain-at-requires : tie.Need-plain-at-requires
-plain-at-requires c κs = search needs
+behind-requires : tie.Need-behind-requires
+behind-requires c κs = search needs
 
-hour-at-requires : tie.Need-hour-at-requires
-hour-at-requires c κs = search needs
+first-field-requires-2 : tie.Need-first-field-requires-2
+first-field-requires-2 c κs = search needs
 
-plain-at-requires-2 : tie.Need-plain-at-requires-2
-plain-at-requires-2 c κs = search needs
+behind-requires-2 : tie.Need-behind-requires-2
+behind-requires-2 c κs = search needs
+
+first-field-requires-3 : tie.Need-first-field-requires-3
+first-field-requires-3 c κs = search needs
+
+plain-in-requires : tie.Need-plain-in-requires
+plain-in-requires c κs = search needs
+
+hour-in-requires : tie.Need-hour-in-requires
+hour-in-requires c κs = search needs
+
+plain-in-requires-2 : tie.Need-plain-in-requires-2
+plain-in-requires-2 c κs = search needs
 
 three-of-requires : tie.Need-three-of-requires
 three-of-requires c κs = search needs
@@ -47,13 +59,18 @@ enum-known-number : tie.Need-enum-known-number
 enum-known-number c = search needs
 
 -- past the shape, the line is made of what its fields read as
-read-as : (c : tie.After-three-of) → loadOf (c .before .before .before .before .before .before .before .before .args .count) (c .before .before .before .before .before .before .before .before .args .line .now) ≡ (asThree (c .three-of .result) >>= λ numbers. right (made (numbers .first) (numbers .second) (numbers .third)))
+read-as : (c : tie.After-three-of) → loadOf (c .before .before .before .before .before .before .before .before .before .before .before .before .args .count) (c .before .before .before .before .before .before .before .before .before .before .before .before .args .line .now) ≡ (asThree (c .three-of .result) >>= λ numbers. right (made (numbers .first) (numbers .second) (numbers .third)))
 unfolding loadOf made
 read-as c =
-    let line = c .before .before .before .before .before .before .before .before .args .line .now in
-    made-of-line line (plainOf (field 0 line)) (plainWithin 1 (c .before .before .before .before .before .before .before .before .args .count) (field 1 line)) (hourOf comma (field 2 line)) made (asThree (c .three-of .result))
-    (shape-tested line (sym (c .before .before .before .before .before .before .is-misshapen .ensures) ∙ c .before .before .before .before .before .if1 .left))
-    (c .three-of .ensures ∙ rw (c .before .plain-at2 .ensures, c .before .before .before .plain-at .ensures, c .before .before .hour-at .ensures, c .before .before .before .before .after-field .ensures, field-later line 0, field-later line 1, any-plain, any-hour))
+    let third = c .before .before .before .before in
+    let second = third .before .before in
+    let first = second .before .before in
+    let shaped = first .before in
+    let line = shaped .before .before .before .args .line .now in
+    let found = three-found line (first .first-field .ensures) (second .before .behind .ensures) (second .first-field2 .ensures) (third .before .behind2 .ensures) (third .first-field3 .ensures) in
+    made-of-line line (plainOf (field 0 line)) (plainWithin 1 (shaped .before .before .before .args .count) (field 1 line)) (hourOf comma (field 2 line)) made (asThree (c .three-of .result))
+    (shape-tested line (sym (shaped .before .is-misshapen .ensures) ∙ shaped .if1 .left))
+    (c .three-of .ensures ∙ rw (c .before .plain-in2 .ensures, c .before .before .before .plain-in .ensures, c .before .before .hour-in .ensures, any-plain, any-hour, ← first .first-field .ensures, ← found .0, ← found .1))
 
 returns-2 : tie.Need-returns-2
 unfolding made
@@ -69,10 +86,14 @@ read-load-spec =
     (tie.spec
     is-misshapen-requires
     returns
-    after-field-requires
-    plain-at-requires
-    hour-at-requires
-    plain-at-requires-2
+    first-field-requires
+    behind-requires
+    first-field-requires-2
+    behind-requires-2
+    first-field-requires-3
+    plain-in-requires
+    hour-in-requires
+    plain-in-requires-2
     three-of-requires
     enum-known-read
     enum-known-number
