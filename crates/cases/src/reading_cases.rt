@@ -3,10 +3,9 @@
 use crate::results;
 use hours::HourRead;
 use hours::PlainRead;
-use lines::reading;
-use lines::reading::HeadingRead;
-use lines::reading::LoadRead;
-use lines::reading::OrderRead;
+use lines::HeadingRead;
+use lines::LoadRead;
+use lines::OrderRead;
 
 pub(crate) fn hour(field: &[u8]) {
     match hours::read_hour(field) {
@@ -23,7 +22,7 @@ pub(crate) fn number(field: &[u8]) {
 }
 
 pub(crate) fn heading(line: &[u8]) {
-    match reading::read_heading(line) {
+    match lines::read_heading(line) {
         HeadingRead::Read(heading) => {
             results::named(b"heading", &[heading.chambers, heading.run]);
         }
@@ -32,7 +31,7 @@ pub(crate) fn heading(line: &[u8]) {
 }
 
 pub(crate) fn order(line: &[u8]) {
-    match reading::read_order(line) {
+    match lines::read_order(line) {
         OrderRead::Read(order) => {
             results::named(b"order", &[order.grower, order.ready, order.due]);
         }
@@ -41,7 +40,7 @@ pub(crate) fn order(line: &[u8]) {
 }
 
 pub(crate) fn load(line: &[u8], count: u32) {
-    match reading::read_load(line, count) {
+    match lines::read_load(line, count) {
         LoadRead::Read(load) => {
             results::named(b"load", &[load.order, load.chamber, load.start]);
         }

@@ -1,7 +1,6 @@
 // The cases of writing: an hour and a plan line, written where there is some room.
 // Any numbers may come. Assumes nothing.
 use crate::results;
-use lines::writing;
 use writer::Written;
 
 // The most room that a case can ask for.
@@ -31,7 +30,7 @@ pub(crate) fn write_load(order: u32, chamber: u32, start: u32, room: usize) {
 }
 
 fn write_load_to(order: u32, chamber: u32, start: u32, buffer: &mut [u8]) {
-    let written = writing::write_plan_line(order, chamber, start, buffer);
+    let written = planlines::write_plan_line(order, chamber, start, buffer);
     show(written, buffer);
 }
 

@@ -6,7 +6,7 @@ use mathlib.Core.List.{List}
 use lib.ListN.{length}
 use Rattle.ground.specs.Refusal.{right}
 use Rattle.ground.specs.Limits.{longestText}
-use Rattle.lines.specs.Writing.{firstOrderLine}
+use Rattle.planlines.specs.Writing.{firstOrderLine}
 use Rattle.book.specs.Soundness.{freshBook}
 use Rattle.book.specs.declared.Book.{Book}
 use Rattle.orders.specs.Answers.{CleanList, orderLines, answersFrom, yeses, yesPlan}

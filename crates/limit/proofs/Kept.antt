@@ -7,7 +7,7 @@ use lib.Seq.{take-set-lt}
 use native.Mathlib.Omega.{arith}
 use Rattle.ground.specs.Refusal.{Read, wrong, right, numberOf}
 use Rattle.lines.specs.Reading.{orderOf}
-use Rattle.lines.specs.declared.reading.Order.{Order}
+use Rattle.lines.specs.declared.Order.{Order}
 use Rattle.book.specs.Taking.{hold, decided, nextBook, answerOf}
 use Rattle.book.specs.declared.Book.{Book}
 use Rattle.book.specs.declared.Choice.{Choice}

@@ -11,8 +11,8 @@ use Rattle.ground.specs.Refusal.{Read, wrong, right}
 use Rattle.ground.specs.Limits.{lastHour}
 use Rattle.ground.proofs.Tests.{by-test}
 use Rattle.lines.specs.Reading.{orderOf}
-use Rattle.lines.specs.declared.reading.Order.{Order}
-use Rattle.lines.specs.declared.reading.Load.{Load}
+use Rattle.lines.specs.declared.Order.{Order}
+use Rattle.lines.specs.declared.Load.{Load}
 use Rattle.book.specs.Taking.{hold, decided, nextBook, answerOf}
 use Rattle.book.specs.Meaning.{Sized}
 use Rattle.book.specs.declared.Book.{Book}

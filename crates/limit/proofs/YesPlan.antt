@@ -7,10 +7,10 @@ use native.Mathlib.Omega.{arith}
 use Rattle.ground.specs.Refusal.{right}
 use Rattle.ground.specs.Limits.{mostChambers, mostOrders, longestText}
 use Rattle.texts.specs.Lines.{linesOf, lineAt}
-use Rattle.lines.specs.Writing.{firstOrderLine}
-use Rattle.lines.specs.declared.reading.Heading.{Heading}
-use Rattle.lines.specs.declared.reading.Order.{Order}
-use Rattle.lines.specs.declared.reading.Load.{Load}
+use Rattle.planlines.specs.Writing.{firstOrderLine}
+use Rattle.lines.specs.declared.Heading.{Heading}
+use Rattle.lines.specs.declared.Order.{Order}
+use Rattle.lines.specs.declared.Load.{Load}
 use Rattle.lines.proofs.Promises.{heading-reads}
 use Rattle.book.specs.declared.Book.{Book}
 use Rattle.book.specs.declared.Answer.{Answer}

@@ -14,10 +14,10 @@ use Rattle.writer.proofs.Writing.{length-of-text}
 use Rattle.texts.specs.Lines.{lineEnd, linesOf}
 use Rattle.fields.specs.Fields.{isNone, isEnded}
 use Rattle.lines.specs.Reading.{loadOf}
-use Rattle.lines.specs.Writing.{InRange, planText}
+use Rattle.planlines.specs.Writing.{InRange, planText}
 use Rattle.texts.specs.Meaning.{joined}
-use Rattle.lines.specs.declared.reading.Load.{Load}
-use Rattle.lines.proofs.RoundTrip.{text-ended, text-reads-back}
+use Rattle.lines.specs.declared.Load.{Load}
+use Rattle.planlines.proofs.RoundTrip.{text-ended, text-reads-back}
 use Rattle.book.specs.declared.Answer.{Answer}
 use Rattle.book.specs.declared.Answer.the-variants.{Yes, No, Refused}
 use Rattle.orders.specs.Answers.{yesPlan, yeses}

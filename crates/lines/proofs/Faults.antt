@@ -24,11 +24,9 @@ use Rattle.lines.specs.Meaning.PlainFault.{unread as no-plain, outside a
 use Rattle.lines.specs.Meaning.HourFault.{unread as no-hour, outside as hour-outside}
 use Rattle.lines.specs.Meaning.WordFault.{other as no-word}
 use Rattle.lines.specs.Meaning.LineFault.{shape as in-shape, one as in-one, two as in-two, last as in-last}
-use Rattle.lines.specs.declared.reading.Heading.{Heading}
-use Rattle.lines.specs.declared.reading.Order.{Order}
-use Rattle.lines.specs.declared.reading.Load.{Load}
-use Rattle.lines.specs.declared.reading.Three.{Three}
-use Rattle.lines.specs.Steps.{threeOf}
+use Rattle.lines.specs.declared.Heading.{Heading}
+use Rattle.lines.specs.declared.Order.{Order}
+use Rattle.lines.specs.declared.Load.{Load}
 use Rattle.fields.proofs.Words.{same-exactly}
 use Rattle.fields.proofs.Splits.{has-fields}
 use Rattle.lines.proofs.LineReading.{any-hour, any-plain}
@@ -208,30 +206,6 @@ refused-then : {A : Type 0} (one two last : Read ℕ) (make : ℕ → ℕ → �
 refused-then one two last make (of-one e) = rw e
 refused-then one two last make (of-two first p e) = rw (p, e)
 refused-then one two last make (of-last first second p q e) = rw (p, q, e)
-
--- what three fields are made into with no meaning of their own
-abbrev threeMade : ℕ → ℕ → ℕ → Three
-threeMade first second third = record { first = first; second = second; third = third }
-
-module _ (one two last : Read ℕ) where
-  -- they read exactly when each field reads as its own
-  pub three-reads :
-      (numbers : Three)
-      → (threeOf one two last ≡ right numbers) ↔ ((one ≡ right (numbers .first)) × (two ≡ right (numbers .second)) × (last ≡ right (numbers .third)))
-  unfolding threeOf
-  three-reads numbers = made-right one two last {make = threeMade}
-      (record {
-        firstOf = λ numbers. numbers .first;
-        secondOf = λ numbers. numbers .second;
-        thirdOf = λ numbers. numbers .third;
-        kept = λ first second third e. (refl, refl, refl);
-        whole = λ numbers. refl;
-      }) numbers
-
-  -- and are refused exactly by the first refusal among the fields
-  pub three-refused : (number : ℕ) → (threeOf one two last ≡ wrong number) ↔ FirstRefusal one two last number
-  unfolding threeOf
-  three-refused number = (refusal-of one two last threeMade number, refused-then one two last threeMade)
 
 -- a reading that goes by what is meant: by what it means to read as a number, and to be at a fault
 pub record GoesBy (read : Read ℕ) (Reads Fault : ℕ → Type 0) : Type 0 where

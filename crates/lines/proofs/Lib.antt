@@ -1,6 +1,4 @@
 -- The laws of this room, by what they are about.
 pub mod LineReading
 pub mod Faults
-pub mod PlanLine
-pub mod RoundTrip
 pub mod Promises

@@ -16,7 +16,7 @@ use Rattle.hours.specs.Reading.{hourOf, plainOf}
 use Rattle.hours.proofs.Promises.{read-at-most, plain-exactly}
 use Rattle.fields.specs.Fields.{isEnded, fieldsOf, fieldCount, shapeOf}
 use Rattle.lines.specs.Reading.{ranged, plainWithin, hourWithin}
-use Rattle.lines.specs.declared.reading.Three.{Three}
+use Rattle.lines.specs.declared.Three.{Three}
 use Rattle.lines.specs.Steps.{threeOf}
 
 -- a line has the shape exactly when it has that many fields, of which there is always one

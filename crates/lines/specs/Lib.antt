@@ -1,5 +1,4 @@
 -- What the contracts of this room cite, and what they are proved to mean.
 pub mod Reading
-pub mod Writing
 pub mod Meaning
 pub mod Steps

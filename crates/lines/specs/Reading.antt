@@ -8,15 +8,15 @@ use Rattle.ground.specs.Text.{bytes}
 use Rattle.hours.specs.Classes.{comma}
 use Rattle.hours.specs.Reading.{hourOf, plainOf}
 use Rattle.fields.specs.Fields.{field, sameBytes, shapeOf}
-use Rattle.lines.specs.declared.reading.Heading.{Heading}
-use Rattle.lines.specs.declared.reading.Order.{Order}
-use Rattle.lines.specs.declared.reading.Load.{Load}
-use Rattle.lines.specs.declared.reading.HeadingRead.{HeadingRead}
-use Rattle.lines.specs.declared.reading.HeadingRead.the-variants as heading
-use Rattle.lines.specs.declared.reading.OrderRead.{OrderRead}
-use Rattle.lines.specs.declared.reading.OrderRead.the-variants as order
-use Rattle.lines.specs.declared.reading.LoadRead.{LoadRead}
-use Rattle.lines.specs.declared.reading.LoadRead.the-variants as load
+use Rattle.lines.specs.declared.Heading.{Heading}
+use Rattle.lines.specs.declared.Order.{Order}
+use Rattle.lines.specs.declared.Load.{Load}
+use Rattle.lines.specs.declared.HeadingRead.{HeadingRead}
+use Rattle.lines.specs.declared.HeadingRead.the-variants as heading
+use Rattle.lines.specs.declared.OrderRead.{OrderRead}
+use Rattle.lines.specs.declared.OrderRead.the-variants as order
+use Rattle.lines.specs.declared.LoadRead.{LoadRead}
+use Rattle.lines.specs.declared.LoadRead.the-variants as load
 
 -- "grower (1 to 9,999)"
 abbrev pub lastGrower : ℕ

@@ -1,11 +1,11 @@
 -- What the private steps of the line readers come to. The public definitions do not rest on it. Assumes nothing.
 use Prim.Native.Nat.{ℕ}
 use Rattle.ground.specs.Refusal.{Read, wrong, right, _>>=_}
-use Rattle.lines.specs.declared.reading.Three.{Three}
-use Rattle.lines.specs.declared.reading.FieldRead.{FieldRead}
-use Rattle.lines.specs.declared.reading.FieldRead.the-variants as one
-use Rattle.lines.specs.declared.reading.ThreeRead.{ThreeRead}
-use Rattle.lines.specs.declared.reading.ThreeRead.the-variants as three
+use Rattle.lines.specs.declared.Three.{Three}
+use Rattle.lines.specs.declared.FieldRead.{FieldRead}
+use Rattle.lines.specs.declared.FieldRead.the-variants as one
+use Rattle.lines.specs.declared.ThreeRead.{ThreeRead}
+use Rattle.lines.specs.declared.ThreeRead.the-variants as three
 
 -- what one field comes to, and three of them read from the left: "A field that does not read ends the reading of its line there"
 abbrev pub asField : FieldRead → Read ℕ

@@ -5,8 +5,8 @@ use mathlib.Core.List.{List}
 use Rattle.ground.specs.Refusal.{numberOf}
 use Rattle.ground.specs.Outcome.{Single}
 use Rattle.ground.proofs.Outcome.{single-value}
-use Rattle.lines.specs.Writing.{firstOrderLine}
-use Rattle.lines.specs.declared.reading.Load.{Load}
+use Rattle.planlines.specs.Writing.{firstOrderLine}
+use Rattle.lines.specs.declared.Load.{Load}
 use Rattle.loads.specs.Checks.{loadMarked, overlap}
 
 -- 1d: each public function's contract admits a single outcome

@@ -6,8 +6,8 @@ use lib.ListN.{length, getD}
 use lib.Dec.{leb, ltb, eqb}
 use Rattle.ground.specs.Refusal.{Read, check, _>>_}
 use Rattle.ground.specs.Range.{within}
-use Rattle.lines.specs.Writing.{firstOrderLine}
-use Rattle.lines.specs.declared.reading.Load.{Load}
+use Rattle.planlines.specs.Writing.{firstOrderLine}
+use Rattle.lines.specs.declared.Load.{Load}
 
 -- what is asked of a load in its order, 11 to 14, where for each order the plan line is known on which it stands, 0 for none
 unfoldable pub loadMarked : ℕ → List ℕ → List ℕ → List ℕ → Load → Read (Unit {0})

@@ -6,10 +6,10 @@ ghost use Prim.Native.Nat.{_-_, suc};
 ghost use lib.ListN.{getD};
 ghost use Rattle.ground.specs.Refusal.{numberOf};
 ghost use Rattle.ground.specs.Range.{within};
-ghost use Rattle.lines.specs.Writing.{firstOrderLine};
+ghost use Rattle.planlines.specs.Writing.{firstOrderLine};
 ghost use Rattle.loads.specs.Checks.{loadMarked, overlap};
-use lines::reading::Load;
-use lines::writing::FIRST_ORDER_LINE;
+use lines::Load;
+use planlines::FIRST_ORDER_LINE;
 
 // One of some hours; 0 where there are fewer.
 fn hour_at(hours: &[u32], place: usize) -> u32

@@ -13,7 +13,7 @@ use Rattle.ground.proofs.Refusal.{never-right, same-right, same-wrong, passed-b
 use Rattle.ground.proofs.Tests.{by-test}
 use Rattle.texts.specs.Lines.{lineAt}
 use Rattle.lines.specs.Reading.{headingOf}
-use Rattle.lines.specs.declared.reading.Heading.{Heading}
+use Rattle.lines.specs.declared.Heading.{Heading}
 use Rattle.lines.specs.Meaning.{HeadingFault, shape, one, two, last, other as other-word}
 use Rattle.lines.specs.Meaning.PlainFault.{unread as no-plain, outside as plain-outside}
 use Rattle.lines.specs.Meaning.HourFault.{unread as no-hour, outside as hour-outside}

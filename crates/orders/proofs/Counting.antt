@@ -6,7 +6,7 @@ use lib.ListN.{length}
 use native.Mathlib.Omega.{arith}
 use Rattle.ground.specs.Refusal.{Read, wrong, right}
 use Rattle.lines.specs.Reading.{orderOf}
-use Rattle.lines.specs.declared.reading.Order.{Order}
+use Rattle.lines.specs.declared.Order.{Order}
 use Rattle.book.specs.Taking.{decided, nextBook, answerOf}
 use Rattle.book.specs.declared.Book.{Book}
 use Rattle.book.specs.declared.Answer.the-variants.{Refused}

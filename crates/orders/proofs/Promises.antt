@@ -12,7 +12,7 @@ use Rattle.texts.specs.Lines.{lineLength, lineAt}
 use Rattle.fields.specs.Fields.{isEnded, shapeOf}
 use Rattle.lines.specs.Reading.{headingOf, orderOf}
 use Rattle.lines.specs.Meaning.{HeadingFault}
-use Rattle.lines.specs.declared.reading.Order.{Order}
+use Rattle.lines.specs.declared.Order.{Order}
 use Rattle.book.specs.Taking.{told, answerOf}
 use Rattle.book.specs.declared.Book.{Book}
 use Rattle.book.specs.declared.Answer.the-variants.{Refused}

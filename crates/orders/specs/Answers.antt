@@ -9,8 +9,8 @@ use Rattle.ground.specs.Refusal.{Read, wrong, right, check, _>>=_, _>>_}
 use Rattle.ground.specs.Limits.{longestText}
 use Rattle.texts.specs.Lines.{linesOf, lineAt, pastLine}
 use Rattle.lines.specs.Reading.{headingOf, orderOf}
-use Rattle.lines.specs.Writing.{planText}
-use Rattle.lines.specs.declared.reading.Order.{Order}
+use Rattle.planlines.specs.Writing.{planText}
+use Rattle.lines.specs.declared.Order.{Order}
 use Rattle.book.specs.Soundness.{freshBook}
 use Rattle.book.specs.Taking.{decided, nextBook, told, answerOf}
 use Rattle.book.specs.declared.Book.{Book}
@@ -51,12 +51,6 @@ answersFrom book (line ∷ lines) = answerOf (decision book (orderOf line)) ∷ 
 unfoldable pub bookAfter : Book → List (List ℕ) → Book
 bookAfter book [] = book
 bookAfter book (line ∷ lines) = bookAfter (bookPast book (orderOf line)) lines
-
--- the answers of a whole list, or the refusal of its text or its first line
-unfoldable pub answersOf : List ℕ → Read (List Answer)
-answersOf text = do
-  book ← opening text
-  right (answersFrom book (orderLines text))
 
 -- how many of some answers are refusals
 abbrev pub refusalsIn : Answer → ℕ

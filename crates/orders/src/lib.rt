@@ -11,12 +11,12 @@ ghost use Rattle.orders.specs.Answers.{opening, decision, bookPast, line
 use book::Answer;
 use book::Book;
 use ground::LONGEST_TEXT;
-use lines::reading::Heading;
-use lines::reading::HeadingRead;
-use lines::reading::Order;
-use lines::reading::OrderRead;
-use lines::reading::read_heading;
-use lines::reading::read_order;
+use lines::Heading;
+use lines::HeadingRead;
+use lines::Order;
+use lines::OrderRead;
+use lines::read_heading;
+use lines::read_order;
 use texts::line_at;
 use texts::line_end;
 

@@ -17,11 +17,6 @@ use Rattle.writer.proofs.Writing.{written-exactly}
 use Rattle.pieces.specs.Placing.{hasRoom, placed, behind, stopped, hourStopped}
 use Rattle.pieces.specs.Steps.{Put}
 
--- nothing written leaves the buffer
-pub onto-nothing : (buffer : List ℕ) → onto [] buffer ≡ buffer
-unfolding onto
-onto-nothing buffer = refl
-
 -- a text over a shorter one that it starts with is as if written at once
 onto-again : (text piece buffer : List ℕ) → onto (text ++ piece) (onto text buffer) ≡ onto (text ++ piece) buffer
 unfolding onto
@@ -162,10 +157,6 @@ module _ (text piece buffer : List ℕ) (at : ℕ) (here : at ≡ length text) (
   placed-behind =
       placed-onto at piece (onto text buffer) (omega (arith, whole))
       ∙ rw (here, front-of-onto) (onto-again text piece buffer)
-
-  -- the place behind the piece is the length of both
-  pub length-behind : behind at piece (onto text buffer) ≡ length (text ++ piece)
-  length-behind = behind-by at piece (onto text buffer) (omega (arith, whole)) ∙ simp length-append (omega arith)
 
 -- what has room is put
 pub put-roomy :

@@ -13,9 +13,9 @@ use Rattle.lines.specs.Reading.{orderOf, loadOf}
 use Rattle.lines.specs.Meaning.{HeadingFault, OrderFault, LoadFault, shape, one, two, last, other as other-word}
 use Rattle.lines.specs.Meaning.PlainFault.{unread as no-plain, outside as plain-outside}
 use Rattle.lines.specs.Meaning.HourFault.{unread as no-hour, outside as hour-outside}
-use Rattle.lines.specs.declared.reading.Heading.{Heading}
-use Rattle.lines.specs.declared.reading.Order.{Order}
-use Rattle.lines.specs.declared.reading.Load.{Load}
+use Rattle.lines.specs.declared.Heading.{Heading}
+use Rattle.lines.specs.declared.Order.{Order}
+use Rattle.lines.specs.declared.Load.{Load}
 use Rattle.plans.specs.Judging.{judged}
 use Rattle.plans.specs.Meaning.{Each, Some, Names, InTime, holdOf, Overlap, OrderWrong, LoadWrong, FirstFault, full, out-of-turn, unlisted, again, early, late, overlapping, list-long, plan-long, in-heading, in-list, in-plan}
 use Rattle.plans.specs.Meaning.OrderWrong.{misread as order-misread}

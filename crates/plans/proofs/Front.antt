@@ -10,9 +10,9 @@ use Rattle.ground.specs.Limits.{longestText}
 use Rattle.ground.proofs.Tests.{never-both}
 use Rattle.texts.specs.Lines.{linesOf}
 use Rattle.texts.specs.Meaning.{joined, AreLines, none, unended, more}
-use Rattle.lines.specs.declared.reading.Heading.{Heading}
-use Rattle.lines.specs.declared.reading.Order.{Order}
-use Rattle.lines.specs.declared.reading.Load.{Load}
+use Rattle.lines.specs.declared.Heading.{Heading}
+use Rattle.lines.specs.declared.Order.{Order}
+use Rattle.lines.specs.declared.Load.{Load}
 use Rattle.texts.proofs.Promises.{lines-joined, lines-are, lines-only}
 use Rattle.plans.specs.Judging.{judged, shown}
 use Rattle.plans.specs.Meaning.{CleanList, GoodLoads, FirstFault, list-long, plan-long, in-heading, in-list, in-plan}

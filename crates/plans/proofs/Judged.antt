@@ -15,11 +15,11 @@ use Rattle.ground.proofs.Refusal.{never-right, same-right, same-wrong}
 use Rattle.ground.proofs.Tests.{by-test}
 use Rattle.texts.specs.Lines.{linesOf, lineLength, lineAt, pastLine}
 use Rattle.lines.specs.Reading.{headingOf, loadOf}
-use Rattle.lines.specs.Writing.{firstOrderLine}
+use Rattle.planlines.specs.Writing.{firstOrderLine}
 use Rattle.texts.specs.Meaning.{joined}
-use Rattle.lines.specs.declared.reading.Heading.{Heading}
-use Rattle.lines.specs.declared.reading.Order.{Order}
-use Rattle.lines.specs.declared.reading.Load.{Load}
+use Rattle.lines.specs.declared.Heading.{Heading}
+use Rattle.lines.specs.declared.Order.{Order}
+use Rattle.lines.specs.declared.Load.{Load}
 use Rattle.texts.proofs.Lines.{line-within}
 use Rattle.texts.proofs.Promises.{lines-joined, walk-on, walk-done}
 use Rattle.lines.proofs.Promises.{heading-fault}

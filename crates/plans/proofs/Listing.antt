@@ -14,10 +14,10 @@ use Rattle.ground.proofs.Refusal.{never-right, same-right}
 use Rattle.ground.proofs.Tests.{by-test}
 use Rattle.texts.specs.Lines.{lineAt, pastLine}
 use Rattle.lines.specs.Reading.{headingOf, orderOf}
-use Rattle.lines.specs.Writing.{firstOrderLine}
+use Rattle.planlines.specs.Writing.{firstOrderLine}
 use Rattle.texts.specs.Meaning.{joined}
-use Rattle.lines.specs.declared.reading.Heading.{Heading}
-use Rattle.lines.specs.declared.reading.Order.{Order}
+use Rattle.lines.specs.declared.Heading.{Heading}
+use Rattle.lines.specs.declared.Order.{Order}
 use Rattle.lines.proofs.Promises.{heading-reads, order-reads, order-fault}
 use Rattle.book.specs.BestFit.{bestFit}
 use Rattle.book.specs.Taking.{decided, nextBook}

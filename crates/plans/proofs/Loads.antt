@@ -15,10 +15,10 @@ use Rattle.ground.proofs.Refusal.{never-right, same-right, same-wrong}
 use Rattle.ground.proofs.Range.{within-from, within-low, within-high}
 use Rattle.ground.proofs.Tests.{never-both, not-met, both, first-of, second-of}
 use Rattle.lines.specs.Reading.{loadOf}
-use Rattle.lines.specs.Writing.{firstOrderLine}
-use Rattle.lines.specs.declared.reading.Heading.{Heading}
-use Rattle.lines.specs.declared.reading.Order.{Order}
-use Rattle.lines.specs.declared.reading.Load.{Load}
+use Rattle.planlines.specs.Writing.{firstOrderLine}
+use Rattle.lines.specs.declared.Heading.{Heading}
+use Rattle.lines.specs.declared.Order.{Order}
+use Rattle.lines.specs.declared.Load.{Load}
 use Rattle.lines.proofs.Promises.{load-fault}
 use Rattle.plans.specs.Judging.{PlanKnown, standsIn, overlapsAny, loadChecked, noteLoad}
 use Rattle.loads.specs.Checks.{overlap}

@@ -10,9 +10,9 @@ use Rattle.ground.specs.Refusal.{Read, wrong, right}
 use Rattle.texts.specs.Lines.{linesOf}
 use Rattle.lines.specs.Reading.{loadOf}
 use Rattle.texts.specs.Meaning.{joined}
-use Rattle.lines.specs.declared.reading.Heading.{Heading}
-use Rattle.lines.specs.declared.reading.Order.{Order}
-use Rattle.lines.specs.declared.reading.Load.{Load}
+use Rattle.lines.specs.declared.Heading.{Heading}
+use Rattle.lines.specs.declared.Order.{Order}
+use Rattle.lines.specs.declared.Load.{Load}
 use Rattle.plans.specs.Judging.{PlanKnown, noteLoad, planJudged}
 use Rattle.plans.specs.Meaning.{Each, EachTwo, InTime, holdOf, Apart, GoodLoads, LoadWrong}
 use Rattle.plans.specs.declared.Fault.{Fault}

@@ -15,7 +15,7 @@ use Rattle.lines.specs.Reading.{orderOf}
 use Rattle.lines.specs.Meaning.{OrderFault, shape, one, two, last}
 use Rattle.lines.specs.Meaning.PlainFault.{unread as no-plain, outside as plain-outside}
 use Rattle.lines.specs.Meaning.HourFault.{unread as no-hour, outside as hour-outside}
-use Rattle.lines.specs.declared.reading.Order.{Order}
+use Rattle.lines.specs.declared.Order.{Order}
 use Rattle.lines.proofs.Promises.{order-fault}
 use Rattle.book.specs.Taking.{decided, nextBook, told, answerOf}
 use Rattle.book.specs.declared.Book.{Book}

@@ -17,9 +17,9 @@ use Rattle.ground.proofs.Tests.{by-test, never-both}
 use Rattle.ground.proofs.Range.{within-low, within-high}
 use Rattle.texts.specs.Lines.{linesOf, lineAt, pastLine}
 use Rattle.lines.specs.Reading.{loadOf}
-use Rattle.lines.specs.Writing.{firstOrderLine}
-use Rattle.lines.specs.declared.reading.Heading.{Heading}
-use Rattle.lines.specs.declared.reading.Load.{Load}
+use Rattle.planlines.specs.Writing.{firstOrderLine}
+use Rattle.lines.specs.declared.Heading.{Heading}
+use Rattle.lines.specs.declared.Load.{Load}
 use Rattle.texts.proofs.Promises.{walk-on}
 use Rattle.texts.proofs.WholeText.{lines-within}
 use Rattle.plans.specs.Judging.{through, PlanKnown, standsIn, overlapsAny, loadChecked, noteLoad, planJudged, loadsCounted}

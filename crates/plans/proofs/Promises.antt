@@ -11,9 +11,9 @@ use Rattle.ground.specs.Outcome.{Injective, Single}
 use Rattle.ground.proofs.Refusal.{never-right, same-right, same-wrong}
 use Rattle.ground.proofs.Outcome.{single-answer, single-value}
 use Rattle.texts.specs.Lines.{linesOf}
-use Rattle.lines.specs.declared.reading.Heading.{Heading}
-use Rattle.lines.specs.declared.reading.Order.{Order}
-use Rattle.lines.specs.declared.reading.Load.{Load}
+use Rattle.lines.specs.declared.Heading.{Heading}
+use Rattle.lines.specs.declared.Order.{Order}
+use Rattle.lines.specs.declared.Load.{Load}
 use Rattle.book.specs.Soundness.{freshBook}
 use Rattle.book.specs.declared.Book.{Book}
 use Rattle.orders.specs.Answers as desk

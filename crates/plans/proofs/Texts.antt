@@ -9,7 +9,7 @@ use Rattle.ground.specs.Refusal.{wrong, right}
 use Rattle.ground.specs.Limits.{longestText}
 use Rattle.texts.specs.Lines.{linesOf, lineAt, pastLine}
 use Rattle.lines.specs.Reading.{headingOf}
-use Rattle.lines.specs.declared.reading.Heading.{Heading}
+use Rattle.lines.specs.declared.Heading.{Heading}
 use Rattle.orders.proofs.Places.{begun-left}
 use Rattle.plans.specs.Judging.{through, noteOrder, noOrders, listJudged, loadsCounted, bothJudged, judged}
 use Rattle.plans.specs.Steps.{OrdersAre}

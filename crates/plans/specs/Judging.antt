@@ -9,9 +9,9 @@ use Rattle.ground.specs.Range.{within}
 use Rattle.ground.specs.Limits.{longestText}
 use Rattle.texts.specs.Lines.{linesOf, lineAt, pastLine, partOf}
 use Rattle.lines.specs.Reading.{headingOf, orderOf, loadOf}
-use Rattle.lines.specs.Writing.{firstOrderLine}
-use Rattle.lines.specs.declared.reading.Heading.{Heading}
-use Rattle.lines.specs.declared.reading.Load.{Load}
+use Rattle.planlines.specs.Writing.{firstOrderLine}
+use Rattle.lines.specs.declared.Heading.{Heading}
+use Rattle.lines.specs.declared.Load.{Load}
 use Rattle.book.specs.Soundness.{freshBook}
 use Rattle.book.specs.Taking.{hold, decided, nextBook}
 use Rattle.book.specs.declared.Book.{Book}

@@ -9,12 +9,12 @@ use Rattle.ground.specs.Refusal.{right}
 use Rattle.ground.specs.Limits.{longestText, mostOrders}
 use Rattle.texts.specs.Lines.{linesOf, lineAt}
 use Rattle.lines.specs.Reading.{headingOf, orderOf, loadOf}
-use Rattle.lines.specs.Writing.{firstOrderLine}
+use Rattle.planlines.specs.Writing.{firstOrderLine}
 use Rattle.texts.specs.Meaning.{joined}
 use Rattle.lines.specs.Meaning.{HeadingFault, OrderFault, LoadFault}
-use Rattle.lines.specs.declared.reading.Heading.{Heading}
-use Rattle.lines.specs.declared.reading.Order.{Order}
-use Rattle.lines.specs.declared.reading.Load.{Load}
+use Rattle.lines.specs.declared.Heading.{Heading}
+use Rattle.lines.specs.declared.Order.{Order}
+use Rattle.lines.specs.declared.Load.{Load}
 use Rattle.book.specs.Soundness.{freshBook}
 use Rattle.book.specs.Taking.{hold}
 use Rattle.orders.specs.Answers.{orderLines}

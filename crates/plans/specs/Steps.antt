@@ -6,8 +6,8 @@ use lib.ListN.{take}
 use Rattle.ground.specs.Refusal.{Or, Read, wrong, right, numberOf}
 use Rattle.ground.specs.Limits.{mostOrders}
 use Rattle.lines.specs.Reading.{orderOf, loadOf}
-use Rattle.lines.specs.declared.reading.Order.{Order}
-use Rattle.lines.specs.declared.reading.Load.{Load}
+use Rattle.lines.specs.declared.Order.{Order}
+use Rattle.lines.specs.declared.Load.{Load}
 use Rattle.book.specs.Taking.{decided, nextBook}
 use Rattle.book.specs.declared.Book.{Book}
 use Rattle.loads.specs.Checks.{loadMarked}

@@ -1,6 +1,5 @@
 -- The laws of this room, by what they are about.
 pub mod Replying
-pub mod JudgementLine
 pub mod Walking
 pub mod ReplyText
 pub mod Sums

@@ -26,8 +26,6 @@ use Rattle.book.specs.declared.Book.{Book}
 use Rattle.orders.specs.Answers.{opening, orderLines, answersFrom, yeses, CleanList, begunBy}
 use Rattle.replies.specs.Replies.{numbered, repliesBy, replyOf}
 use Rattle.replies.specs.Meaning.{GoneThrough}
-use Rattle.replies.specs.Judgements.{judgementLine}
-use Rattle.plans.specs.declared.Judgement.{Judgement}
 use Rattle.replies.proofs.Walking as walking
 use Rattle.replies.proofs.Sums as sums
 use Rattle.replies.proofs.ReplyText as texts
@@ -103,28 +101,6 @@ pub sum-changes-its-own :
     → drop count (bufferAfter buffer (fitted buffer (right (sumLine taken kept)))) ≡ drop count buffer
 sum-changes-its-own taken kept = pieces.write-changes-its-own (sumLine taken kept)
 
--- 1b: a judgement is refused by 7 exactly when its line is longer than the buffer, and is written in every other case
-pub judgement-refused-by-seven :
-    (judgement : Judgement) (buffer : List ℕ)
-    → (lengthOf (fitted buffer (right (judgementLine judgement))) ≡ wrong 7) ↔ (length buffer < length (judgementLine judgement))
-judgement-refused-by-seven judgement = pieces.refused-by-seven (judgementLine judgement)
-
-pub judgement-written-exactly :
-    (judgement : Judgement) (buffer bytes : List ℕ)
-    → (fitted buffer (right (judgementLine judgement)) ≡ right bytes) ↔ ((length (judgementLine judgement) ≤ length buffer) × (bytes ≡ judgementLine judgement))
-judgement-written-exactly judgement = pieces.written-exactly (judgementLine judgement)
-
--- 1c: a refused write leaves every byte, and a write changes no byte but its own, at the front
-pub refused-judgement-stays :
-    (judgement : Judgement) (buffer : List ℕ) (number : ℕ) → lengthOf (fitted buffer (right (judgementLine judgement))) ≡ wrong number
-    → bufferAfter buffer (fitted buffer (right (judgementLine judgement))) ≡ buffer
-refused-judgement-stays judgement = pieces.refused-write-stays (judgementLine judgement)
-
-pub judgement-changes-its-own :
-    (judgement : Judgement) (buffer : List ℕ) (count : ℕ) → lengthOf (fitted buffer (right (judgementLine judgement))) ≡ right count
-    → drop count (bufferAfter buffer (fitted buffer (right (judgementLine judgement)))) ≡ drop count buffer
-judgement-changes-its-own judgement = pieces.write-changes-its-own (judgementLine judgement)
-
 -- 1d: each public function's contract admits a single outcome
 pub write-answer-single :
     (line : ℕ) (answer : Answer) (buffer : List ℕ)
@@ -142,11 +118,3 @@ pub write-sum-single :
     (asLength (outcome .0) ≡ lengthOf (fitted buffer (right (sumLine taken kept))))
     × (outcome .1 ≡ bufferAfter buffer (fitted buffer (right (sumLine taken kept)))))
 write-sum-single taken kept = pieces.write-text-single (sumLine taken kept)
-
-pub write-judgement-single :
-    (judgement : Judgement) (buffer : List ℕ)
-    → Single {A = Written × List ℕ}
-    (λ outcome.
-    (asLength (outcome .0) ≡ lengthOf (fitted buffer (right (judgementLine judgement))))
-    × (outcome .1 ≡ bufferAfter buffer (fitted buffer (right (judgementLine judgement)))))
-write-judgement-single judgement = pieces.write-text-single (judgementLine judgement)

@@ -11,7 +11,7 @@ use Rattle.texts.specs.Lines.{lineEnd, linesOf}
 use Rattle.fields.specs.Fields.{tab}
 use Rattle.texts.specs.Meaning.{isUnbroken, AreLines, none, more}
 use Rattle.fields.specs.Meaning.{isClean, allClean, tabbed}
-use Rattle.lines.proofs.RoundTrip.{clean-number, clean-hour}
+use Rattle.planlines.proofs.RoundTrip.{clean-number, clean-hour}
 use Rattle.texts.proofs.Promises.{lines-only}
 use Rattle.book.specs.declared.Book.{Book}
 use Rattle.book.specs.declared.Answer.{Answer}

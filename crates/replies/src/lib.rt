@@ -1,7 +1,5 @@
 // The lines of the desk's reply, each written to a lent buffer: the reply to a line, from its number and its answer, and the sum.
 // Any numbers and any buffer may come. Assumes nothing.
-pub mod judgements;
-
 ghost use mathlib.Core.Path.{_≡_};
 ghost use mathlib.Core.Bool.{true};
 ghost use Prim.Native.Nat.{_+_, _≤_};

@@ -1,0 +1,117 @@
+-- What was written as a plan line reads back as its three numbers. Assumes nothing.
+use Prim.Native.Nat.{ℕ, _≤_, _/_}
+use mathlib.Core.Path.{_≡_, refl, sym, ap, _∙_}
+use mathlib.Core.Bool.{true}
+use mathlib.Core.List.{List, [], _∷_, _++_, append-assoc, append-nil}
+use lib.ListN.{length, take}
+use native.Mathlib.Omega.{arith}
+use borrow.Author.Tests.{ne-eqb}
+use Rattle.ground.specs.Refusal.{right}
+use Rattle.ground.specs.Limits.{mostChambers, lastPlain}
+use Rattle.ground.specs.Digits.{isDigit, allDigits, lastDigit, spelled}
+use Rattle.ground.specs.Buffer.{fitted, lengthOf, bufferAfter}
+use Rattle.ground.proofs.Tests.{both, first-of, second-of}
+use Rattle.ground.proofs.Range.{within-from}
+use Rattle.ground.proofs.Refusal.{same-right}
+use Rattle.ground.proofs.Digits.{digit-low, last-is-digit, spelled-digits, spelled-worth, spelled-plain}
+use Rattle.ground.proofs.Buffer.{written-front}
+use Rattle.hours.specs.Classes.{comma}
+use Rattle.hours.specs.Reading.{plainOf}
+use Rattle.writer.specs.Writing.{hourText}
+use Rattle.hours.proofs.Promises.{plain-exactly}
+use Rattle.writer.proofs.Writing.{reads-back}
+use Rattle.texts.specs.Lines.{lineEnd}
+use Rattle.fields.specs.Fields.{tab, isEnded, fieldsOf, shapeOf}
+use Rattle.lines.specs.Reading.{ranged, plainWithin, loadOf}
+use Rattle.planlines.specs.Writing.{InRange, planText, planWritten}
+use Rattle.fields.specs.Meaning.{isClean, allClean, tabbed}
+use Rattle.lines.specs.declared.Load.{Load}
+use Rattle.planlines.proofs.PlanLine.{written-exactly}
+use Rattle.fields.proofs.Splits.{fields-of-tabbed}
+
+-- digits are clean, and so is what is put behind a clean text
+clean-byte : (byte : ℕ) (rest : List ℕ) → (byte ≡ tab → ⊥) → (byte ≡ lineEnd → ⊥) → isClean rest ≡ true → isClean (byte ∷ rest) ≡ true
+unfolding isClean
+clean-byte byte rest no-tab no-end clean = rw (ne-eqb byte tab no-tab, ne-eqb byte lineEnd no-end) clean
+
+clean-digit : (byte : ℕ) (rest : List ℕ) → isDigit byte ≡ true → isClean rest ≡ true → isClean (byte ∷ rest) ≡ true
+clean-digit byte rest digit clean = clean-byte byte rest (λ e. omega (arith, digit-low byte digit)) (λ e. omega (arith, digit-low byte digit)) clean
+
+clean-digits : (word rest : List ℕ) → allDigits word ≡ true → isClean rest ≡ true → isClean (word ++ rest) ≡ true
+unfolding allDigits
+clean-digits [] rest all clean = clean
+clean-digits (byte ∷ word) rest all clean =
+    clean-digit byte (word ++ rest) (first-of (isDigit byte) (allDigits word) all) (clean-digits word rest (second-of (isDigit byte) (allDigits word) all) clean)
+
+pub clean-number : (number : ℕ) → isClean (spelled number) ≡ true
+unfolding isClean
+clean-number number = rw append-nil at (clean-digits (spelled number) [] (spelled-digits number) refl)
+
+pub clean-hour : (hour : ℕ) → isClean (hourText comma hour) ≡ true
+unfolding isClean hourText
+clean-hour hour =
+    let tail : isClean (lastDigit (hour / 10) ∷ lastDigit hour ∷ []) ≡ true =
+    clean-digit (lastDigit (hour / 10)) (lastDigit hour ∷ []) (last-is-digit (hour / 10)) (clean-digit (lastDigit hour) [] (last-is-digit hour) refl) in
+    clean-digits (spelled (hour / 100)) (comma ∷ lastDigit (hour / 10) ∷ lastDigit hour ∷ []) (spelled-digits (hour / 100)) tail
+
+module _ (order chamber start : ℕ) where
+  abbrev numbers : List (List ℕ)
+  numbers = spelled order ∷ spelled chamber ∷ hourText comma start ∷ []
+
+  numbers-clean : allClean numbers ≡ true
+  unfolding allClean
+  numbers-clean = both (clean-number order) (both (clean-number chamber) (both (clean-hour start) refl))
+
+  -- a plan line's text is its three numbers with tabs between and the line end behind
+  text-tabbed : planText order chamber start ≡ tabbed numbers ++ lineEnd ∷ []
+  unfolding planText tabbed
+  text-tabbed = simp append-assoc
+
+  pub text-ended : isEnded (planText order chamber start) ≡ true
+  text-ended = rw text-tabbed (fields-of-tabbed numbers (omega arith) numbers-clean .0)
+
+  pub text-fields : fieldsOf (planText order chamber start) ≡ numbers
+  text-fields = rw text-tabbed (fields-of-tabbed numbers (omega arith) numbers-clean .1)
+
+-- a spelled number reads as itself
+plain-back : (number : ℕ) → number ≤ lastPlain → plainOf (spelled number) ≡ right number
+plain-back number small = plain-exactly (spelled number) number .1 (spelled-plain number small, sym (spelled-worth number))
+
+module _ (order chamber start count : ℕ) (range : InRange order chamber start) (admitted : chamber ≤ count) where
+  -- the text reads back as its three numbers
+  pub text-reads-back : loadOf count (planText order chamber start) ≡ right (record { order = order; chamber = chamber; start = start })
+  unfolding loadOf shapeOf plainWithin ranged
+  text-reads-back =
+      rw (
+        text-ended order chamber start,
+        text-fields order chamber start,
+        plain-back order (omega arith),
+        plain-back chamber (omega arith),
+        within-from 1 count chamber (omega arith) admitted,
+        reads-back comma refl start (range .start-hour),
+      )
+
+-- different numbers never give the same bytes
+pub texts-differ :
+    (order chamber start other-order other-chamber other-start : ℕ) → InRange order chamber start → InRange other-order other-chamber other-start
+    → planText order chamber start ≡ planText other-order other-chamber other-start
+    → (order ≡ other-order) × (chamber ≡ other-chamber) × (start ≡ other-start)
+texts-differ order chamber start other-order other-chamber other-start range other-range same =
+    let loads : _≡_ {A = Load} (record { order = order; chamber = chamber; start = start })
+    (record { order = other-order; chamber = other-chamber; start = other-start }) =
+    same-right
+    (sym (text-reads-back order chamber start mostChambers range (range .chamber-number .1)) ∙ ap (loadOf mostChambers) same
+    ∙ text-reads-back other-order other-chamber other-start mostChambers other-range (other-range .chamber-number .1)) in
+    (ap (λ (load : Load). load .order) loads, ap (λ (load : Load). load .chamber) loads, ap (λ (load : Load). load .start) loads)
+
+-- what stands at the front of the buffer after a writing reads as the three numbers, with any list's count that admits the chamber
+pub written-reads-back :
+    (order chamber start : ℕ) (buffer : List ℕ) (length count : ℕ) → lengthOf (fitted buffer (planWritten order chamber start)) ≡ right length
+    → chamber ≤ count
+    → loadOf count (take length (bufferAfter buffer (fitted buffer (planWritten order chamber start))))
+    ≡ right (record { order = order; chamber = chamber; start = start })
+written-reads-back order chamber start buffer length count done admitted =
+    let p =
+    written-exactly order chamber start buffer (take length (bufferAfter buffer (fitted buffer (planWritten order chamber start)))) .0
+    (written-front buffer (fitted buffer (planWritten order chamber start)) length done) in
+    ap (loadOf count) (p .2) ∙ text-reads-back order chamber start count (p .0) admitted
