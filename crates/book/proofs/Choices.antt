@@ -10,11 +10,11 @@ use native.Mathlib.Omega.{arith}
 use borrow.Author.Tests.{ltb-true, ltb-false, leb-true, leb-false}
 use Rattle.ground.specs.Limits.{mostChambers}
 use Rattle.ground.proofs.Tests.{by-test}
-use Rattle.book.specs.BestFit.{lifted, offer, better, bestFit}
+use Rattle.choice.specs.BestFit.{lifted, offer, better, bestFit}
 use Rattle.book.specs.Meaning.{Sized, hourFor, Fits, BestFitting, NoneFits}
 use Rattle.book.specs.declared.Book.{Book}
-use Rattle.book.specs.declared.Choice.{Choice}
-use Rattle.book.specs.declared.Choice.the-variants.{Nothing, Chamber}
+use Rattle.choice.specs.declared.Choice.{Choice}
+use Rattle.choice.specs.declared.Choice.the-variants.{Nothing, Chamber}
 
 -- a chamber that fits, among those numbered from one number on and before another
 record FitsAmong (hour : ℕ → ℕ) (due run first past chamber : ℕ) : Type 0 where

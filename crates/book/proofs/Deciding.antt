@@ -5,13 +5,13 @@ use lib.ListN.{length, take, length-take}
 use native.Mathlib.Omega.{arith}
 use Rattle.ground.specs.Refusal.{Read, wrong, right, numberOf}
 use Rattle.ground.proofs.Refusal.{refused-by}
-use Rattle.book.specs.BestFit.{bestFit}
+use Rattle.choice.specs.BestFit.{bestFit}
 use Rattle.book.specs.Taking.{decided}
 use Rattle.book.specs.Settling.{Settles}
 use Rattle.book.specs.Meaning.{Admitted}
 use Rattle.book.specs.declared.Book.{Book}
-use Rattle.book.specs.declared.Choice.{Choice}
-use Rattle.book.specs.declared.Choice.the-variants.{Nothing, Chamber}
+use Rattle.choice.specs.declared.Choice.{Choice}
+use Rattle.choice.specs.declared.Choice.the-variants.{Nothing, Chamber}
 use Rattle.book.proofs.Choices.{Chosen, chosen}
 use Rattle.book.proofs.Refusals.{by-choice, never-by-none}
 

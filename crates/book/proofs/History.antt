@@ -12,13 +12,13 @@ use Rattle.ground.specs.Refusal.{Read, wrong, right}
 use Rattle.ground.specs.Limits.{mostChambers}
 use Rattle.ground.proofs.Tests.{by-test}
 use Rattle.book.specs.Soundness.{freshBook}
-use Rattle.book.specs.BestFit.{lifted}
+use Rattle.choice.specs.BestFit.{lifted}
 use Rattle.book.specs.Taking.{hold, decided, nextBook}
 use Rattle.book.specs.Meaning.{Sized, Admitted, hourFor, Fits, BestFitting, NoneFits}
 use Rattle.book.specs.History.{Order, Load, decidedOf, bookNext, bookAfter, loadTaken, loadsOf, During, Runs, Completes, Feasible, SourceRejects, LowestSourceChoice}
 use Rattle.book.specs.declared.Book.{Book}
-use Rattle.book.specs.declared.Choice.{Choice}
-use Rattle.book.specs.declared.Choice.the-variants.{Nothing, Chamber}
+use Rattle.choice.specs.declared.Choice.{Choice}
+use Rattle.choice.specs.declared.Choice.the-variants.{Nothing, Chamber}
 use Rattle.book.proofs.Steps.{yes-exactly, no-exactly}
 
 -- what a yes is known to be: to one of the chambers, at the later of its free hour and the ready hour

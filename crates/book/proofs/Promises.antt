@@ -18,7 +18,7 @@ use Rattle.book.specs.Meaning.{Sized, Sound, Admitted, hourFor, BestFitt
 use Rattle.book.specs.History.{Order, bookAfter, loadsOf, Completes, SourceRejects, LowestSourceChoice}
 use Rattle.book.specs.declared.Book.{Book}
 use Rattle.book.specs.declared.Answer.the-variants.{Yes, No, Refused}
-use Rattle.book.specs.declared.Choice.the-variants.{Nothing, Chamber}
+use Rattle.choice.specs.declared.Choice.the-variants.{Nothing, Chamber}
 use Rattle.book.proofs.Soundness.{fresh-sound}
 use Rattle.book.proofs.Refusals as refusals
 use Rattle.book.proofs.Choices as choices

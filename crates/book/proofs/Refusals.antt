@@ -11,11 +11,11 @@ use Rattle.ground.specs.Limits.{lastHour, mostOrders}
 use Rattle.ground.proofs.Tests.{by-test, not-met}
 use Rattle.ground.proofs.Refusal.{never-right, same-right, same-wrong, passed-by, unmet-by, after-met, after-unmet}
 use Rattle.book.specs.Soundness.{isSound}
-use Rattle.book.specs.BestFit.{bestFit}
+use Rattle.choice.specs.BestFit.{bestFit}
 use Rattle.book.specs.Taking.{decided}
 use Rattle.book.specs.Meaning.{Sound, Admitted}
 use Rattle.book.specs.declared.Book.{Book}
-use Rattle.book.specs.declared.Choice.{Choice}
+use Rattle.choice.specs.declared.Choice.{Choice}
 use Rattle.book.proofs.Soundness.{sound-facts, sound-from}
 
 either : {A B : Type 0} → (A → ⊥) → (B → ⊥) → A ⊎ B → ⊥

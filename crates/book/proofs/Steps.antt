@@ -15,8 +15,8 @@ use Rattle.book.specs.Soundness.{lastFreeHour, allUpTo}
 use Rattle.book.specs.Taking.{decided, nextBook}
 use Rattle.book.specs.Meaning.{Sized, Sound, Admitted, BestFitting, NoneFits}
 use Rattle.book.specs.declared.Book.{Book}
-use Rattle.book.specs.declared.Choice.{Choice}
-use Rattle.book.specs.declared.Choice.the-variants.{Nothing, Chamber}
+use Rattle.choice.specs.declared.Choice.{Choice}
+use Rattle.choice.specs.declared.Choice.the-variants.{Nothing, Chamber}
 use Rattle.book.proofs.Choices.{Chosen, chosen, best-exactly, none-exactly}
 use Rattle.book.proofs.Refusals.{by-choice}
 

@@ -5,8 +5,8 @@ use mathlib.Core.Logic.{_⊎_, _↔_}
 use mathlib.Core.List.{List, [], _∷_, _++_}
 use Rattle.ground.specs.Refusal.{Read, wrong, right}
 use Rattle.book.specs.Taking.{decided, nextBook}
-use Rattle.book.specs.declared.Choice.{Choice}
-use Rattle.book.specs.declared.Choice.the-variants.{Nothing, Chamber}
+use Rattle.choice.specs.declared.Choice.{Choice}
+use Rattle.choice.specs.declared.Choice.the-variants.{Nothing, Chamber}
 use Rattle.book.specs.declared.Book.{Book}
 
 -- an order: its ready hour and its due hour

@@ -1,6 +1,5 @@
 -- What the contracts of this room cite, and what they are proved to mean.
 pub mod Soundness
-pub mod BestFit
 pub mod Taking
 pub mod Meaning
 pub mod History

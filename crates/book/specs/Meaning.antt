@@ -5,7 +5,7 @@ use mathlib.Core.Bool.{true}
 use lib.ListN.{length, getD, drop}
 use Rattle.ground.specs.Limits.{lastHour, mostChambers, longestRun, mostOrders}
 use Rattle.book.specs.Soundness.{lastFreeHour, allUpTo}
-use Rattle.book.specs.BestFit.{lifted}
+use Rattle.choice.specs.BestFit.{lifted}
 use Rattle.book.specs.declared.Book.{Book}
 
 -- a book has a free hour for each chamber that there can be

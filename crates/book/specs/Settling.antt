@@ -2,8 +2,8 @@
 use Prim.Native.Nat.{_+_, _≤_, _<_}
 use Rattle.ground.specs.Limits.{lastHour, mostChambers, mostOrders}
 use Rattle.book.specs.declared.Book.{Book}
-use Rattle.book.specs.declared.Choice.{Choice}
-use Rattle.book.specs.declared.Choice.the-variants.{Nothing, Chamber}
+use Rattle.choice.specs.declared.Choice.{Choice}
+use Rattle.choice.specs.declared.Choice.the-variants.{Nothing, Chamber}
 
 -- there is room for one more order, and a chosen chamber is one of those that there can be, with a load that ends by the last hour
 abbrev pub Settles : Book → Choice → Type 0

@@ -6,9 +6,9 @@ use lib.Dec.{leb, ltb}
 use Rattle.ground.specs.Refusal.{Read, wrong, right, check, _>>_}
 use Rattle.ground.specs.Limits.{lastHour, mostOrders}
 use Rattle.book.specs.Soundness.{isSound}
-use Rattle.book.specs.BestFit.{bestFit}
-use Rattle.book.specs.declared.Choice.{Choice}
-use Rattle.book.specs.declared.Choice.the-variants.{Nothing, Chamber}
+use Rattle.choice.specs.BestFit.{bestFit}
+use Rattle.choice.specs.declared.Choice.{Choice}
+use Rattle.choice.specs.declared.Choice.the-variants.{Nothing, Chamber}
 use Rattle.book.specs.declared.Book.{Book}
 use Rattle.book.specs.declared.Taken.{Taken}
 use Rattle.book.specs.declared.Answer.{Answer}

@@ -2,15 +2,18 @@
 // Any numbers may come, and any book, sound or not. Assumes nothing.
 ghost use mathlib.Core.Path.{_≡_};
 ghost use mathlib.Core.Bool.{cond, _&&_};
-ghost use Prim.Native.Nat.{_+_, _≤_, _<_, max};
+ghost use Prim.Native.Nat.{_<_};
 ghost use lib.ListN.{take, drop};
-ghost use Rattle.ground.specs.Limits.{mostChambers, mostOrders};
+ghost use Rattle.ground.specs.Limits.{mostOrders};
 ghost use Rattle.ground.specs.Range.{within};
 ghost use Rattle.ground.specs.Refusal.{right, numberOf};
 ghost use Rattle.book.specs.Soundness.{lastFreeHour, allUpTo, isSound, freshBook, opened};
-ghost use Rattle.book.specs.BestFit.{offer, better, bestFit};
+ghost use Rattle.choice.specs.BestFit.{bestFit};
+ghost use Rattle.choice.specs.declared.Choice.the-variants as Choice;
 ghost use Rattle.book.specs.Taking.{decided, told, Answered};
 ghost use Rattle.book.specs.Settling.{Settles};
+use choice::Choice;
+use choice::best_fit;
 
 // How many free hours a book holds: one for each chamber that there can be.
 const FREE_HOURS: usize = ground::MOST_CHAMBERS as usize;
@@ -35,12 +38,6 @@ pub enum Answer {
     Refused(u32),
 }
 
-// The chamber chosen and the start there, or nothing where none fits.
-pub enum Choice {
-    Nothing,
-    Chamber { chamber: u32, start: u32 },
-}
-
 // An answer and the next book.
 pub struct Taken {
     pub answer: Answer,
@@ -51,13 +48,6 @@ pub struct Taken {
 pub struct Opened {
     pub refusal: u32,
     pub book: Book,
-}
-
-// The later of two hours.
-fn later(one: u32, other: u32) -> u32
-    ensures { λ r. ⌜ r ≡ max one other ⌝ }
-{
-    if one < other { other } else { one }
 }
 
 // Whether no hour from a place on is above a limit.
@@ -72,73 +62,6 @@ fn all_up_to(limit: u32, hours: &[u32], from: usize) -> bool
         at += 1;
     }
     true
-}
-
-// What one chamber offers: the later of its free hour and ready, where the run ends in time.
-fn offer(ready: u32, due: u32, run: u32, chamber: u32, free: u32) -> Choice
-    ensures { λ r. ⌜ r ≡ offer ready due run chamber free ⌝ }
-{
-    let hour = later(free, ready);
-    if due as u64 >= hour as u64 + run as u64 {
-        return Choice::Chamber {
-            chamber,
-            start: hour,
-        };
-    }
-    Choice::Nothing
-}
-
-// The later start of two offers; the first where they are equal.
-fn better(one: Choice, other: Choice) -> Choice
-    ensures { λ r. ⌜ r ≡ better one other ⌝ }
-{
-    match one {
-        Choice::Nothing => other,
-        Choice::Chamber { chamber, start } => better_than(chamber, start, other),
-    }
-}
-
-fn better_than(chamber: u32, start: u32, other: Choice) -> Choice
-    ensures { λ r. ⌜ r ≡ better (Choice.Chamber chamber start) other ⌝ }
-{
-    match other {
-        Choice::Nothing => Choice::Chamber { chamber, start },
-        Choice::Chamber {
-            chamber: second,
-            start: begins,
-        } => fuller(chamber, start, second, begins),
-    }
-}
-
-fn fuller(chamber: u32, start: u32, second: u32, begins: u32) -> Choice
-    ensures { λ r. ⌜ r ≡ better (Choice.Chamber chamber start) (Choice.Chamber second begins) ⌝ }
-{
-    if start < begins {
-        return Choice::Chamber {
-            chamber: second,
-            start: begins,
-        };
-    }
-    Choice::Chamber { chamber, start }
-}
-
-// The choice among so many chambers, the first of them chamber 1, with these free hours.
-fn best_fit(ready: u32, due: u32, run: u32, hours: &[u32], count: usize) -> Choice
-    requires { ⌜ count ≤ mostChambers ⌝ }
-    ensures { λ r. ⌜ r ≡ bestFit ready due run 1 (take count (now (hours .entry))) ⌝ }
-{
-    let mut choice = Choice::Nothing;
-    let mut chamber: u32 = 1;
-    let mut at: usize = 0;
-    while at < hours.len() {
-        if count <= at {
-            return choice;
-        }
-        choice = better(choice, offer(ready, due, run, chamber, hours[at]));
-        chamber += 1;
-        at += 1;
-    }
-    choice
 }
 
 // A check's number where it is not met, else what the checks after it come to; 0 is no refusal.
@@ -207,12 +130,10 @@ fn refused(book: Book, number: u32) -> Taken
 
 // The choice of a book for an order.
 fn choose(book: Book, ready: u32, due: u32) -> Choice
-    requires { ⌜ book .chambers ≤ mostChambers ⌝ }
     ensures { λ r. ⌜ r ≡ bestFit ready due (book .run) 1 (take (book .chambers) (book .free)) ⌝ }
 {
     let free = book.free;
-    let count = book.chambers as usize;
-    best_fit(ready, due, book.run, &free, count)
+    best_fit(ready, due, book.run, &free, book.chambers)
 }
 
 // The answer to an order that is not refused, and the next book.

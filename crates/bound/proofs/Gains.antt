@@ -5,8 +5,8 @@ use mathlib.Core.List.{List, [], _∷_}
 use lib.ListN.{length, length-set}
 use native.Mathlib.Omega.{arith}
 use Rattle.book.specs.History.{Order}
-use Rattle.book.specs.declared.Choice.{Choice}
-use Rattle.book.specs.declared.Choice.the-variants.{Nothing, Chamber}
+use Rattle.choice.specs.declared.Choice.{Choice}
+use Rattle.choice.specs.declared.Choice.the-variants.{Nothing, Chamber}
 use Rattle.bound.specs.Plans.{choiceOf, freeAfter, InTurn, KeepsTo}
 use Rattle.bound.proofs.Weights.{step, pre}
 use Rattle.bound.proofs.Counting.{above, window, above-most, unfit-above, window-most}

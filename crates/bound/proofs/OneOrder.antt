@@ -7,9 +7,9 @@ use lib.Dec.{leb, ltb}
 use native.Mathlib.Omega.{arith}
 use borrow.Author.Tests.{ltb-true, ltb-false, leb-true, leb-false}
 use Rattle.ground.proofs.Tests.{by-test}
-use Rattle.book.specs.BestFit.{offer, better, bestFit}
-use Rattle.book.specs.declared.Choice.{Choice}
-use Rattle.book.specs.declared.Choice.the-variants.{Nothing, Chamber}
+use Rattle.choice.specs.BestFit.{offer, better, bestFit}
+use Rattle.choice.specs.declared.Choice.{Choice}
+use Rattle.choice.specs.declared.Choice.the-variants.{Nothing, Chamber}
 use Rattle.bound.specs.Plans.{freeAfter}
 use Rattle.bound.proofs.Counting.{above, unfit, window, above-most, above-set}
 

@@ -4,7 +4,7 @@ use mathlib.Core.Path.{_≡_, refl}
 use mathlib.Core.List.{List, [], _∷_}
 use lib.ListN.{length, replicate}
 use native.Mathlib.Omega.{arith}
-use Rattle.book.specs.BestFit.{offer, bestFit}
+use Rattle.choice.specs.BestFit.{offer, bestFit}
 use Rattle.book.specs.History.{Order}
 use Rattle.bound.specs.Plans.{Lengths, keptOf, InTurn, PlanLoad, KeepsTo, ApartFrom, GoodPlan}
 

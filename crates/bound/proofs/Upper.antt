@@ -9,8 +9,8 @@ use native.Mathlib.Omega.{arith}
 use borrow.Author.Tests.{leb-true, leb-false}
 use Rattle.ground.proofs.Tests.{by-test}
 use Rattle.book.specs.History.{Order}
-use Rattle.book.specs.declared.Choice.{Choice}
-use Rattle.book.specs.declared.Choice.the-variants.{Nothing, Chamber}
+use Rattle.choice.specs.declared.Choice.{Choice}
+use Rattle.choice.specs.declared.Choice.the-variants.{Nothing, Chamber}
 use Rattle.bound.specs.Plans.{Lengths, choiceOf, freeAfter, keptBy, keptOf, PlanLoad, KeepsTo, GoodLoad, ApartFrom, GoodPlan}
 use Rattle.bound.proofs.Weights.{weight, step, pre, steps-grow, pre-grows, steps-and-rest}
 use Rattle.bound.proofs.Counting.{above, unfit, window, unfit-above, window-from}

@@ -3,10 +3,10 @@ use Prim.Native.Nat.{ℕ, zero, suc, _+_, _-_, _≤_, _<_}
 use mathlib.Core.Path.{_≡_}
 use mathlib.Core.List.{List, [], _∷_}
 use lib.ListN.{set}
-use Rattle.book.specs.BestFit.{bestFit}
+use Rattle.choice.specs.BestFit.{bestFit}
 use Rattle.book.specs.History.{Order}
-use Rattle.book.specs.declared.Choice.{Choice}
-use Rattle.book.specs.declared.Choice.the-variants.{Nothing, Chamber}
+use Rattle.choice.specs.declared.Choice.{Choice}
+use Rattle.choice.specs.declared.Choice.the-variants.{Nothing, Chamber}
 
 -- the rule's answer to an order, where the chambers have these free hours
 abbrev pub choiceOf : ℕ → List ℕ → Order → Choice

@@ -10,8 +10,8 @@ use Rattle.lines.specs.Reading.{orderOf}
 use Rattle.lines.specs.declared.Order.{Order}
 use Rattle.book.specs.Taking.{hold, decided, nextBook, answerOf}
 use Rattle.book.specs.declared.Book.{Book}
-use Rattle.book.specs.declared.Choice.{Choice}
-use Rattle.book.specs.declared.Choice.the-variants.{Nothing, Chamber}
+use Rattle.choice.specs.declared.Choice.{Choice}
+use Rattle.choice.specs.declared.Choice.the-variants.{Nothing, Chamber}
 use Rattle.book.proofs.Choices.{Chosen, chosen}
 use Rattle.book.proofs.Deciding.{passed}
 use Rattle.orders.specs.Answers.{answersFrom, refusalsIn, refusals, yesesIn, yeses}

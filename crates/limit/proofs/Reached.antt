@@ -7,7 +7,7 @@ use Rattle.hours.specs.Reading.{scanned, hourOf, plainOf}
 use Rattle.texts.specs.Lines.{linesOf, lineLength, lineAt}
 use Rattle.fields.specs.Fields.{sameBytes, isEnded, fieldsOf, shapeOf}
 use Rattle.lines.specs.Reading.{steam, steamAt, ranged, plainWithin, hourWithin, headingOf, orderOf, loadOf}
-use Rattle.book.specs.BestFit.{offer, bestFit}
+use Rattle.choice.specs.BestFit.{offer, bestFit}
 use Rattle.book.specs.Soundness.{freshBook, allUpTo, allMet, soundness, isSound}
 use Rattle.book.specs.Taking.{decided}
 use Rattle.orders.specs.Answers.{opening, orderLines, answersFrom, refusals, yeses, CleanList}

@@ -16,8 +16,8 @@ use Rattle.lines.specs.declared.Load.{Load}
 use Rattle.book.specs.Taking.{hold, decided, nextBook, answerOf}
 use Rattle.book.specs.Meaning.{Sized}
 use Rattle.book.specs.declared.Book.{Book}
-use Rattle.book.specs.declared.Choice.{Choice}
-use Rattle.book.specs.declared.Choice.the-variants.{Nothing, Chamber}
+use Rattle.choice.specs.declared.Choice.{Choice}
+use Rattle.choice.specs.declared.Choice.the-variants.{Nothing, Chamber}
 use Rattle.book.specs.declared.Answer.{Answer}
 use Rattle.book.specs.declared.Answer.the-variants.{Yes, No, Refused}
 use Rattle.book.proofs.Steps.{next-sized, yes-exactly}

@@ -10,7 +10,7 @@ use Rattle.texts.specs.Meaning.{joined}
 use Rattle.fields.specs.Fields.{sameBytes, isEnded, fieldsOf, shapeOf}
 use Rattle.fields.specs.Meaning.{tabbed}
 use Rattle.lines.specs.Reading.{steam, steamAt, ranged, plainWithin, hourWithin, headingOf, orderOf, loadOf}
-use Rattle.book.specs.BestFit.{offer, bestFit}
+use Rattle.choice.specs.BestFit.{offer, bestFit}
 use Rattle.book.specs.Soundness.{allUpTo, allMet, soundness, isSound}
 use Rattle.book.specs.Taking.{decided}
 use Rattle.orders.specs.Answers.{opening, orderLines, answersFrom, bookAfter}

@@ -8,8 +8,8 @@ use Rattle.hours.specs.Classes.{comma}
 use Rattle.hours.specs.Reading.{hourOf}
 use Rattle.book.specs.Taking.{decided}
 use Rattle.book.specs.declared.Book.{Book}
-use Rattle.book.specs.declared.Choice.{Choice}
-use Rattle.book.specs.declared.Choice.the-variants.{Nothing, Chamber}
+use Rattle.choice.specs.declared.Choice.{Choice}
+use Rattle.choice.specs.declared.Choice.the-variants.{Nothing, Chamber}
 use Rattle.plans.specs.Judging.{judged}
 use Rattle.replies.specs.Replies.{replyOf}
 use Rattle.limit.specs.Example.{paperList, paperPlan}

@@ -10,8 +10,8 @@ use Rattle.lines.specs.declared.Order.{Order}
 use Rattle.book.specs.Taking.{decided, nextBook, answerOf}
 use Rattle.book.specs.declared.Book.{Book}
 use Rattle.book.specs.declared.Answer.the-variants.{Refused}
-use Rattle.book.specs.declared.Choice.{Choice}
-use Rattle.book.specs.declared.Choice.the-variants.{Nothing, Chamber}
+use Rattle.choice.specs.declared.Choice.{Choice}
+use Rattle.choice.specs.declared.Choice.the-variants.{Nothing, Chamber}
 use Rattle.book.proofs.Promises.{refused-order-stays}
 use Rattle.orders.specs.Answers.{answersFrom, bookAfter, decision, bookPast, refusalsIn, refusals, yesesIn, yeses}
 

@@ -14,7 +14,7 @@ use Rattle.lines.specs.declared.Order.{Order}
 use Rattle.book.specs.Soundness.{freshBook}
 use Rattle.book.specs.Taking.{decided, nextBook, told, answerOf}
 use Rattle.book.specs.declared.Book.{Book}
-use Rattle.book.specs.declared.Choice.{Choice}
+use Rattle.choice.specs.declared.Choice.{Choice}
 use Rattle.book.specs.declared.Answer.{Answer}
 use Rattle.book.specs.declared.Answer.the-variants.{Yes, No, Refused}
 use Rattle.orders.specs.declared.Progress.{Progress}

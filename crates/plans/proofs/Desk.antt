@@ -15,8 +15,8 @@ use Rattle.lines.specs.declared.Order.{Order}
 use Rattle.book.specs.Soundness.{freshBook}
 use Rattle.book.specs.Taking.{decided, nextBook, answerOf}
 use Rattle.book.specs.declared.Book.{Book}
-use Rattle.book.specs.declared.Choice.{Choice}
-use Rattle.book.specs.declared.Choice.the-variants.{Nothing, Chamber}
+use Rattle.choice.specs.declared.Choice.{Choice}
+use Rattle.choice.specs.declared.Choice.the-variants.{Nothing, Chamber}
 use Rattle.orders.specs.Answers.{opening, orderLines, answersFrom, decision, bookPast, refusalsIn, refusals}
 use Rattle.orders.specs.Answers as desk
 use Rattle.orders.proofs.Beginning.{heading-right, heading-wrong, opened-within}

@@ -3,26 +3,13 @@ use Prim.Native.Nat.{ℕ, suc, _+_, _-_, _≤_, _<_}
 use mathlib.Core.Path.{_≡_, refl}
 use mathlib.Core.Bool.{Bool}
 use mathlib.Core.List.{List, [], _∷_}
-use lib.ListN.{length, take, drop}
+use lib.ListN.{length, drop}
 use native.Mathlib.Numerals.{add-one}
-use native.Mathlib.Omega.{arith}
 use Rattle.ground.specs.Refusal.{Read, wrong, right}
 use Rattle.texts.specs.Lines.{linesOf, lineAt, pastLine}
-use Rattle.texts.proofs.Lines.{line-is, past-is, not-beyond}
-use Rattle.texts.proofs.Promises.{walk-on, walk-some, walk-done}
+use Rattle.texts.proofs.Lines.{past-is}
+use Rattle.texts.proofs.Promises.{walk-on, walk-done}
 use Rattle.plans.specs.Judging.{through}
-
--- while a line is left the place moves on
-pub moves-on : (text : List ℕ) (at : ℕ) → at < length text → at < pastLine text at
-moves-on text at inside = omega (arith, past-is text at, walk-some text at inside)
-
--- and it stays in the text
-pub ends-inside : (text : List ℕ) (at : ℕ) → at < length text → pastLine text at ≤ length text
-ends-inside text at inside = omega (arith, not-beyond text at)
-
--- the part of a text up to the place past a line is that line
-pub part-is-line : (text : List ℕ) (at end : ℕ) → end ≡ pastLine text at → take (end - at) (drop at text) ≡ lineAt text at
-part-is-line text at end past = rw past (line-is text at)
 
 module _ {Known : Type 0} (note : Known → List ℕ → Read Known) (plan : Bool) (line at : ℕ) (known : Known) where
   -- with no line left, what is known is the answer

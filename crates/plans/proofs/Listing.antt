@@ -19,12 +19,12 @@ use Rattle.texts.specs.Meaning.{joined}
 use Rattle.lines.specs.declared.Heading.{Heading}
 use Rattle.lines.specs.declared.Order.{Order}
 use Rattle.lines.proofs.Promises.{heading-reads, order-reads, order-fault}
-use Rattle.book.specs.BestFit.{bestFit}
+use Rattle.choice.specs.BestFit.{bestFit}
 use Rattle.book.specs.Taking.{decided, nextBook}
 use Rattle.book.specs.Meaning.{Sound, Admitted}
 use Rattle.book.specs.declared.Book.{Book}
-use Rattle.book.specs.declared.Choice.{Choice}
-use Rattle.book.specs.declared.Choice.the-variants.{Nothing, Chamber}
+use Rattle.choice.specs.declared.Choice.{Choice}
+use Rattle.choice.specs.declared.Choice.the-variants.{Nothing, Chamber}
 use Rattle.book.proofs.Soundness.{fresh-sound}
 use Rattle.book.proofs.Refusals.{by-choice}
 use Rattle.book.proofs.Promises.{stays-sound, refused-by-eight, refused-by-four, refused-by-six, refused-by-five, refused-by-no-other}

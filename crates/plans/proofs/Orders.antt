@@ -19,8 +19,8 @@ use Rattle.lines.specs.declared.Order.{Order}
 use Rattle.lines.proofs.Promises.{order-fault}
 use Rattle.book.specs.Taking.{decided, nextBook, told, answerOf}
 use Rattle.book.specs.declared.Book.{Book}
-use Rattle.book.specs.declared.Choice.{Choice}
-use Rattle.book.specs.declared.Choice.the-variants.{Nothing, Chamber}
+use Rattle.choice.specs.declared.Choice.{Choice}
+use Rattle.choice.specs.declared.Choice.the-variants.{Nothing, Chamber}
 use Rattle.book.proofs.Refusals.{by-choice, never-by-none}
 use Rattle.orders.specs.Answers.{decision, bookPast}
 use Rattle.plans.specs.Judging.{ListKnown, through, noteOrder}

@@ -29,7 +29,8 @@ use Rattle.plans.specs.Steps.{loadRefusal, Loaded}
 use Rattle.plans.specs.declared.LoadNoted.{LoadNoted}
 use Rattle.plans.proofs.Loading.{taken-there}
 use Rattle.plans.proofs.Pigeonhole.{OrderLines, few-loads, no-order-lines, order-lines-more}
-use Rattle.plans.proofs.Going.{part-is-line, through-done, through-on, through-stops}
+use Rattle.texts.proofs.WholeText.{part-is-line}
+use Rattle.plans.proofs.Going.{through-done, through-on, through-stops}
 
 -- a test whose contrary holds fails
 not-not : (test : Bool) → not test ≡ true → test ≡ false

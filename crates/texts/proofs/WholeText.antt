@@ -1,5 +1,5 @@
 -- The lines of a text are all of it, each in its turn, and a walk hands out just these. Assumes nothing.
-use Prim.Native.Nat.{ℕ, suc, _≤_, _<_}
+use Prim.Native.Nat.{ℕ, suc, _-_, _≤_, _<_}
 use mathlib.Core.Path.{_≡_, refl}
 use mathlib.Core.Bool.{true, false, not}
 use mathlib.Core.List.{List, [], _∷_, _++_, append-nil}
@@ -11,7 +11,7 @@ use borrow.Author.Tests.{eqb-true, not-true}
 use Rattle.ground.proofs.Tests.{by-test, first-of, second-of}
 use Rattle.texts.specs.Lines.{lineEnd, before, linesOf, lineLength, lineAt, pastLine}
 use Rattle.texts.specs.Meaning.{isUnbroken, joined, AreLines, none, unended, more}
-use Rattle.texts.proofs.Lines.{past-none}
+use Rattle.texts.proofs.Lines.{past-none, line-is, past-is, not-beyond}
 
 -- the lines joined are the text
 joined-before : (byte : ℕ) (lines : List (List ℕ)) → joined (before byte lines) ≡ byte ∷ joined lines
@@ -104,3 +104,15 @@ lines-within [] = omega arith
 lines-within (byte ∷ rest) =
     by-test (eqb byte lineEnd) (λ same. rw same (omega (arith, lines-within rest)))
     (λ other. rw other (omega (arith, lines-within rest, before-longer byte (linesOf rest))))
+
+-- while a line is left the place moves on
+pub moves-on : (text : List ℕ) (at : ℕ) → at < length text → at < pastLine text at
+moves-on text at inside = omega (arith, past-is text at, walk-some text at inside)
+
+-- and it stays in the text
+pub ends-inside : (text : List ℕ) (at : ℕ) → at < length text → pastLine text at ≤ length text
+ends-inside text at inside = omega (arith, not-beyond text at)
+
+-- the part of a text up to the place past a line is that line
+pub part-is-line : (text : List ℕ) (at end : ℕ) → end ≡ pastLine text at → take (end - at) (drop at text) ≡ lineAt text at
+part-is-line text at end past = rw past (line-is text at)

@@ -9,7 +9,7 @@ use mathlib.Core.Logic.{⊎-elim}
 use Rattle.texts.specs.Lines.{lineAt}
 use Rattle.plans.specs.Judging.{overlapsAny}
 use Rattle.plans.specs.Steps.{Loaded}
-use Rattle.plans.proofs.Going.{moves-on, ends-inside}
+use Rattle.texts.proofs.WholeText.{moves-on, ends-inside}
 use Rattle.plans.proofs.Loading.{zeros-at}
 use Rattle.plans.proofs.Planning.{Reached, loaded-line, seen-at, reached-room, order-room, reached-top, reached-end, reached-fault, reached-next, search-on, search-found, line-refused, line-overlaps}
 use Rattle.plans.proofs.judge_plan.Statement.{statement}

@@ -9,7 +9,7 @@ use Rattle.ground.specs.Refusal.{wrong}
 use Rattle.ground.specs.Limits.{mostOrders}
 use Rattle.texts.specs.Lines.{lineAt}
 use Rattle.plans.specs.Steps.{Noted}
-use Rattle.plans.proofs.Going.{moves-on, ends-inside, part-is-line}
+use Rattle.texts.proofs.WholeText.{moves-on, ends-inside, part-is-line}
 use Rattle.plans.proofs.Orders.{Kept, ordersLeft, ordersOf, standing, note-kept, order-stands, order-stops, orders-stand}
 use Rattle.plans.proofs.read_orders.Statement.{statement}
 use Rattle.plans.proofs.read_orders.Tie as tie

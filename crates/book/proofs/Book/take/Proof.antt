@@ -21,9 +21,7 @@ returns c =
     (record { said = c .refused .ensures .0; next = c .refused .ensures .1 })
 
 choose-requires : tie.Need-choose-requires
-choose-requires c κs =
-    let a = c .before .before .args in
-    passed-order (a .self) (a .ready) (a .due) (c .before .refusal-of .result) (c .before .refusal-of .ensures) (omega arith) .admitted .sound .chambers-range .1
+choose-requires c κs = search needs
 
 settle-requires : tie.Need-settle-requires
 settle-requires c κs =

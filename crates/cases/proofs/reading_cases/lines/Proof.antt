@@ -3,7 +3,7 @@ use Prim.Native.Nat.{_-_}
 use native.Mathlib.Omega.{arith}
 use borrow.Author.Needs.{needs}
 use lib.ListN.{length}
-use Rattle.plans.proofs.Going.{moves-on}
+use Rattle.texts.proofs.WholeText.{moves-on}
 use Rattle.cases.proofs.reading_cases.lines.Statement.{statement}
 use Rattle.cases.proofs.reading_cases.lines.Tie as tie
 

@@ -1,8 +1,8 @@
 -- `fuller` is decided by its one test.
 use native.Mathlib.Omega.{arith}
 use borrow.Author.Tests.{lt-ltb, le-ltb}
-use Rattle.book.proofs.fuller.Statement.{statement}
-use Rattle.book.proofs.fuller.Tie as tie
+use Rattle.choice.proofs.fuller.Statement.{statement}
+use Rattle.choice.proofs.fuller.Tie as tie
 
 returns : tie.Need-returns
 returns c = let a = c .before .args in simp (lt-ltb (a .start) (a .begins) (omega arith))

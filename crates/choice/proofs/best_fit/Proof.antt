@@ -4,15 +4,15 @@ use mathlib.Core.Path.{_≡_, refl, sym, _∙_}
 use native.Mathlib.Omega.{arith}
 use borrow.Author.Needs.{needs}
 use lib.ListN.{length, take, drop, length-take}
-use Rattle.book.specs.BestFit.{better, bestFit}
-use Rattle.book.proofs.Choosing.{choice-step, choice-end}
-use Rattle.book.proofs.best_fit.Statement.{statement}
-use Rattle.book.proofs.best_fit.Tie as tie
+use Rattle.choice.specs.BestFit.{better, bestFit}
+use Rattle.choice.proofs.Choosing.{choice-step, choice-end}
+use Rattle.choice.proofs.best_fit.Statement.{statement}
+use Rattle.choice.proofs.best_fit.Tie as tie
 
 abbrev Inv-loop : tie.InvT-loop
 Inv-loop ready due run hours count choice₀ chamber₀ at₀ choice chamber at =
-    (at ≤ length hours) × (at ≤ count) × (chamber ≡ at + 1)
-    × (better choice (bestFit ready due run chamber (drop at (take count hours))) ≡ bestFit ready due run 1 (take count hours))
+    (at ≤ length hours) × (at ≤ count) × (chamber ≡ at)
+    × (better choice (bestFit ready due run (chamber + 1) (drop at (take count hours))) ≡ bestFit ready due run 1 (take count hours))
 
 abbrev μ-loop : tie.MeasureT-loop
 μ-loop ready due run hours count choice₀ chamber₀ at₀ choice chamber at = length hours - at
@@ -24,7 +24,10 @@ returns : tie.Need-returns Inv-loop μ-loop
 returns c =
     let l = c .before .before in
     let a = l .before .before .args in
-    sym (choice-end (a .ready) (a .due) (a .run) (l .loop .chamber) (l .loop .choice) (a .hours .now) (a .count) (l .loop .at) (simp length-take (omega arith))) ∙ l .loop .inv .3
+    sym (choice-end (a .ready) (a .due) (a .run) (l .loop .chamber + 1) (l .loop .choice) (a .hours .now) (a .count) (l .loop .at) (simp length-take (omega arith))) ∙ l .loop .inv .3
+
+add-chamber : tie.Need-add-chamber Inv-loop μ-loop
+add-chamber c = search needs
 
 mul-offer : tie.Need-mul-offer Inv-loop μ-loop
 mul-offer c = search needs
@@ -37,9 +40,6 @@ offer-requires c κs = search needs
 
 better-requires : tie.Need-better-requires Inv-loop μ-loop
 better-requires c κs = search needs
-
-add-chamber : tie.Need-add-chamber Inv-loop μ-loop
-add-chamber c = search needs
 
 add-at : tie.Need-add-at Inv-loop μ-loop
 add-at c = search needs
@@ -55,14 +55,14 @@ loop-again c =
       omega arith,
       omega arith,
       rw (c .better .ensures, c .before .offer .ensures)
-          (sym (choice-step (a .ready) (a .due) (a .run) (l .loop .chamber) (l .loop .choice) (a .hours .now) (a .count) (l .loop .at) (omega arith) (omega arith)) ∙ l .loop .inv .3),
+          (sym (choice-step (a .ready) (a .due) (a .run) (l .loop .chamber + 1) (l .loop .choice) (a .hours .now) (a .count) (l .loop .at) (omega arith) (omega arith)) ∙ l .loop .inv .3),
     )
 
 returns-2 : tie.Need-returns-2 Inv-loop μ-loop
 returns-2 c =
     let l = c .before in
     let a = l .before .before .args in
-    sym (choice-end (a .ready) (a .due) (a .run) (l .loop .chamber) (l .loop .choice) (a .hours .now) (a .count) (l .loop .at) (simp length-take (omega arith))) ∙ l .loop .inv .3
+    sym (choice-end (a .ready) (a .due) (a .run) (l .loop .chamber + 1) (l .loop .choice) (a .hours .now) (a .count) (l .loop .at) (simp length-take (omega arith))) ∙ l .loop .inv .3
 
 pub best-fit-spec : {M : Type 1} → statement M
 best-fit-spec =
@@ -72,11 +72,11 @@ best-fit-spec =
     μ-loop
     loop-holds
     returns
+    add-chamber
     mul-offer
     shared-slice-read-offer
     offer-requires
     better-requires
-    add-chamber
     add-at
     loop-less
     loop-again

@@ -1,7 +1,7 @@
 -- `better_than` goes by what the other offer is.
 use borrow.Author.Needs.{needs}
-use Rattle.book.proofs.better_than.Statement.{statement}
-use Rattle.book.proofs.better_than.Tie as tie
+use Rattle.choice.proofs.better_than.Statement.{statement}
+use Rattle.choice.proofs.better_than.Tie as tie
 
 enum-told : tie.Need-enum-told
 enum-told c = search needs

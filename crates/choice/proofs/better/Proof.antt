@@ -1,7 +1,7 @@
 -- `better` goes by what the first offer is.
 use borrow.Author.Needs.{needs}
-use Rattle.book.proofs.better.Statement.{statement}
-use Rattle.book.proofs.better.Tie as tie
+use Rattle.choice.proofs.better.Statement.{statement}
+use Rattle.choice.proofs.better.Tie as tie
 
 enum-told : tie.Need-enum-told
 enum-told c = search needs

@@ -4,9 +4,9 @@ use borrow.Author.Needs.{needs}
 use Prim.Native.Nat.{_+_, max}
 use mathlib.Core.Path.{refl}
 use borrow.Author.Tests.{le-leb, lt-leb}
-use Rattle.book.specs.BestFit.{offer}
-use Rattle.book.proofs.offer.Statement.{statement}
-use Rattle.book.proofs.offer.Tie as tie
+use Rattle.choice.specs.BestFit.{offer}
+use Rattle.choice.proofs.offer.Statement.{statement}
+use Rattle.choice.proofs.offer.Tie as tie
 
 later-requires : tie.Need-later-requires
 later-requires c κs = search needs

@@ -9,9 +9,9 @@ use native.Mathlib.Numerals.{add-one}
 use native.Mathlib.Omega.{arith}
 use borrow.Author.Tests.{ltb-true, ltb-false, lt-ltb, le-ltb}
 use Rattle.ground.proofs.Tests.{by-test}
-use Rattle.book.specs.BestFit.{offer, better, bestFit}
-use Rattle.book.specs.declared.Choice.{Choice}
-use Rattle.book.specs.declared.Choice.the-variants.{Nothing, Chamber}
+use Rattle.choice.specs.BestFit.{offer, better, bestFit}
+use Rattle.choice.specs.declared.Choice.{Choice}
+use Rattle.choice.specs.declared.Choice.the-variants.{Nothing, Chamber}
 
 better-nothing : (choice : Choice) → better choice Nothing ≡ choice
 better-nothing Nothing = refl

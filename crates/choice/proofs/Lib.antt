@@ -1,0 +1,3 @@
+-- The laws of this room, by what they are about.
+pub mod Choosing
+pub mod Promises
