@@ -11,7 +11,8 @@ use Rattle.choice.specs.BestFit.{offer, bestFit}
 use Rattle.book.specs.Soundness.{freshBook, allUpTo, allMet, soundness, isSound}
 use Rattle.book.specs.Taking.{decided}
 use Rattle.orders.specs.Answers.{opening, orderLines, answersFrom, refusals, yeses, CleanList}
-use Rattle.plans.specs.Judging.{through, noteOrder, standsIn, overlapsAny, loadChecked, noteLoad, listJudged, planJudged, loadsCounted, bothJudged, judged}
+use Rattle.loads.specs.Checks.{loadAsked}
+use Rattle.plans.specs.Judging.{through, noteOrder, standsIn, overlapsAny, noteLoad, listJudged, planJudged, loadsCounted, bothJudged, judged}
 use Rattle.limit.specs.Example.{paperList, paperPlan}
 
 -- the list begins with a book of two chambers and a run of three hours, and none of its lines is refused
@@ -29,5 +30,5 @@ paper-yeses = refl
 -- the plan is judged right with nine loads
 pub paper-right : judged paperList paperPlan ≡ right 9
 unfolding
-    judged bothJudged loadsCounted planJudged listJudged noteLoad loadChecked overlapsAny standsIn noteOrder through orderLines bytes classOf scanned hourOf plainOf linesOf lineLength lineAt sameBytes isEnded fieldsOf shapeOf steam steamAt ranged plainWithin hourWithin headingOf orderOf loadOf decided isSound soundness allMet allUpTo bestFit offer paperList paperPlan
+    judged bothJudged loadsCounted planJudged listJudged noteLoad loadAsked overlapsAny standsIn noteOrder through orderLines bytes classOf scanned hourOf plainOf linesOf lineLength lineAt sameBytes isEnded fieldsOf shapeOf steam steamAt ranged plainWithin hourWithin headingOf orderOf loadOf decided isSound soundness allMet allUpTo bestFit offer paperList paperPlan
 paper-right = refl

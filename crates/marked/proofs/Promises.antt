@@ -14,7 +14,8 @@ use Rattle.choice.specs.BestFit.{offer, bestFit}
 use Rattle.book.specs.Soundness.{allUpTo, allMet, soundness, isSound}
 use Rattle.book.specs.Taking.{decided}
 use Rattle.orders.specs.Answers.{opening, orderLines, answersFrom, bookAfter}
-use Rattle.plans.specs.Judging.{through, noteOrder, standsIn, overlapsAny, loadChecked, noteLoad, listJudged, planJudged, loadsCounted, bothJudged, judged}
+use Rattle.loads.specs.Checks.{loadAsked}
+use Rattle.plans.specs.Judging.{through, noteOrder, standsIn, overlapsAny, noteLoad, listJudged, planJudged, loadsCounted, bothJudged, judged}
 use Rattle.replies.specs.Replies.{replyLine, sumLine, numbered, repliesFrom, replyOf}
 use Rattle.limit.specs.Example.{paperList, paperPlan}
 use Rattle.marked.specs.Cases.{AllHold, paperReply, markedCases}
@@ -22,5 +23,5 @@ use Rattle.marked.specs.Cases.{AllHold, paperReply, markedCases}
 -- all twelve
 pub marked-cases-hold : AllHold markedCases
 unfolding
-    AllHold markedCases paperReply paperList paperPlan bytes spelled spelledWithin hourText classOf scanned hourOf plainOf linesOf lineLength lineAt joined sameBytes isEnded fieldsOf shapeOf tabbed steam steamAt ranged plainWithin hourWithin headingOf orderOf loadOf offer bestFit allUpTo allMet soundness isSound decided opening orderLines answersFrom bookAfter replyLine sumLine numbered repliesFrom replyOf through noteOrder standsIn overlapsAny loadChecked noteLoad listJudged planJudged loadsCounted bothJudged judged
+    AllHold markedCases paperReply paperList paperPlan bytes spelled spelledWithin hourText classOf scanned hourOf plainOf linesOf lineLength lineAt joined sameBytes isEnded fieldsOf shapeOf tabbed steam steamAt ranged plainWithin hourWithin headingOf orderOf loadOf offer bestFit allUpTo allMet soundness isSound decided opening orderLines answersFrom bookAfter replyLine sumLine numbered repliesFrom replyOf through noteOrder standsIn overlapsAny loadAsked noteLoad listJudged planJudged loadsCounted bothJudged judged
 marked-cases-hold = (refl, (refl, (refl, (refl, (refl, (refl, (refl, (refl, (refl, (refl, (refl, (refl, tt))))))))))))

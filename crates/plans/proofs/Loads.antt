@@ -20,7 +20,8 @@ use Rattle.lines.specs.declared.Heading.{Heading}
 use Rattle.lines.specs.declared.Order.{Order}
 use Rattle.lines.specs.declared.Load.{Load}
 use Rattle.lines.proofs.Promises.{load-fault}
-use Rattle.plans.specs.Judging.{PlanKnown, standsIn, overlapsAny, loadChecked, noteLoad}
+use Rattle.plans.specs.Judging.{PlanKnown, standsIn, overlapsAny, noteLoad}
+use Rattle.loads.specs.Checks.{loadAsked}
 use Rattle.loads.specs.Checks.{overlap}
 use Rattle.plans.specs.Meaning.{Each, Some, Names, InTime, holdOf, Overlap, Apart, LoadWrong, misread, unlisted, again, early, late, overlapping}
 use Rattle.plans.proofs.Each.{each-so, anyOf, any-some, any-none, some-any, none-any}
@@ -221,7 +222,7 @@ module _ (heading : Heading) (orders : List Order) (seen : List Load) where
 
   -- a line is read and then checked
   in-order : (line : List ℕ) → noteLoad heading readies dues (knownOf seen) line ≡ (loadOf (heading .chambers) line >>= checked)
-  unfolding noteLoad loadChecked known-more
+  unfolding noteLoad loadAsked known-more
   in-order line = refl
 
   -- what is known of all loads with it

@@ -24,7 +24,7 @@ use Rattle.texts.proofs.Promises.{walk-on}
 use Rattle.texts.proofs.WholeText.{lines-within}
 use Rattle.plans.specs.Judging.{through, PlanKnown, standsIn, overlapsAny, loadChecked, noteLoad, planJudged, loadsCounted}
 use Rattle.loads.specs.Checks.{overlap}
-use Rattle.loads.specs.Checks.{loadMarked}
+use Rattle.loads.specs.Checks.{loadAsked, loadMarked}
 use Rattle.plans.specs.Steps.{loadRefusal, Loaded}
 use Rattle.plans.specs.declared.LoadNoted.{LoadNoted}
 use Rattle.plans.proofs.Loading.{taken-there}
@@ -44,7 +44,7 @@ record Met (run : ℕ) (readies dues orders : List ℕ) (load : Load) : Type 0 w
   passed : loadChecked run readies dues orders load ≡ right tt
 
 met : (run : ℕ) (readies dues orders : List ℕ) (load : Load) → numberOf (loadChecked run readies dues orders load) ≡ 0 → Met run readies dues orders load
-unfolding loadChecked
+unfolding loadAsked
 met run readies dues orders load none =
     let place = load .order - firstOrderLine in
     let facts =
@@ -126,7 +126,7 @@ Marks count lines orders =
 same-checks :
     (run : ℕ) (readies dues lines orders : List ℕ) → Marks (length readies) lines orders → (load : Load)
     → loadMarked run readies dues lines load ≡ loadChecked run readies dues orders load
-unfolding loadMarked loadChecked
+unfolding loadAsked
 same-checks run readies dues lines orders marked load =
     by-test (within firstOrderLine (suc (length readies)) (load .order)) (λ inside. rw (marked (load .order) inside)) (λ outside. rw outside)
 

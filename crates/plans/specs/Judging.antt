@@ -1,21 +1,19 @@
 -- How a plan is judged: "The checker is lent an order list and a plan, made by whoever … The first fault is the answer, with its number, which text, its line number, and the line at fault". Assumes nothing.
-use Prim.Native.Nat.{ℕ, suc, _+_, _-_}
+use Prim.Native.Nat.{ℕ, suc, _+_}
 use mathlib.Core.Bool.{Bool, true, false, not, cond, _||_}
 use mathlib.Core.List.{List, [], _∷_, _++_}
-use lib.ListN.{length, getD}
+use lib.ListN.{length}
 use lib.Dec.{leb, eqb}
 use Rattle.ground.specs.Refusal.{Or, Read, wrong, right, check, _>>=_, _>>_}
-use Rattle.ground.specs.Range.{within}
 use Rattle.ground.specs.Limits.{longestText}
 use Rattle.texts.specs.Lines.{linesOf, lineAt, pastLine, partOf}
 use Rattle.lines.specs.Reading.{headingOf, orderOf, loadOf}
-use Rattle.planlines.specs.Writing.{firstOrderLine}
 use Rattle.lines.specs.declared.Heading.{Heading}
 use Rattle.lines.specs.declared.Load.{Load}
 use Rattle.book.specs.Soundness.{freshBook}
 use Rattle.book.specs.Taking.{hold, decided, nextBook}
 use Rattle.book.specs.declared.Book.{Book}
-use Rattle.loads.specs.Checks.{overlap}
+use Rattle.loads.specs.Checks.{loadAsked, overlap}
 use Rattle.orders.specs.Answers.{orderLines}
 use Rattle.plans.specs.declared.Fault.{Fault}
 use Rattle.plans.specs.declared.Judgement.{Judgement}
@@ -68,13 +66,9 @@ overlapsAny hold chamber start (other ∷ chambers) [] = false
 overlapsAny hold chamber start (other ∷ chambers) (begins ∷ starts) =
     overlap hold chamber start other begins || overlapsAny hold chamber start chambers starts
 
--- what is asked of a load in its order, 11 to 14: "a plan line names no order line of the list (0, 1, or past the end)", "the same order stands on an earlier plan line", "start is before ready", "start plus run is after due"
-unfoldable pub loadChecked : ℕ → List ℕ → List ℕ → List ℕ → Load → Read (Unit {0})
-loadChecked run readies dues orders load = do
-  check (within firstOrderLine (suc (length readies)) (load .order)) 11
-  check (not (standsIn (load .order) orders)) 12
-  check (leb (getD readies (load .order - firstOrderLine) 0) (load .start)) 13
-  check (leb (load .start + run) (getD dues (load .order - firstOrderLine) 0)) 14
+-- what is asked of a load in its order, 11 to 14, behind loads of the orders on these lines
+abbrev pub loadChecked : ℕ → List ℕ → List ℕ → List ℕ → Load → Read (Unit {0})
+loadChecked run readies dues orders load = loadAsked run readies dues (not (standsIn (load .order) orders)) load
 
 -- "A plan line: the line checks, then 11, 12, 13, 14, 15"
 unfoldable pub noteLoad : Heading → List ℕ → List ℕ → PlanKnown → List ℕ → Read PlanKnown

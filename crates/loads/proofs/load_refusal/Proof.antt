@@ -1,6 +1,6 @@
 -- `load_refusal` is the number that the checks from 11 to 14 come to in the paper's order.
 use Rattle.ground.proofs.Refusal.{number-of-check}
-use Rattle.loads.specs.Checks.{loadMarked}
+use Rattle.loads.specs.Checks.{loadAsked}
 use Rattle.loads.proofs.Checks.{number-of-last-check}
 use borrow.Author.Needs.{needs}
 use Rattle.loads.proofs.load_refusal.Statement.{statement}
@@ -43,7 +43,7 @@ check-requires-4 : tie.Need-check-requires-4
 check-requires-4 c κs = search needs
 
 returns : tie.Need-returns
-unfolding loadMarked
+unfolding loadAsked
 returns c =
     let k = c .before .before .before in
     let h = k .before .before .before in
