@@ -153,11 +153,12 @@ fn declined(book: Book, ready: u32) -> Taken
     ensures { λ r. ⌜ Answered book ready (right Choice.Nothing) r ⌝ }
 {
     let free = book.free;
+    let taken = book.taken + 1;
     let passed = Book {
         chambers: book.chambers,
         run: book.run,
         clock: ready,
-        taken: book.taken + 1,
+        taken,
         kept: book.kept,
         free,
     };
@@ -176,12 +177,14 @@ fn accepted(book: Book, ready: u32, chamber: u32, start: u32) -> Taken
     let hold = book.run;
     let mut free = book.free;
     free[at] = start + hold;
+    let taken = book.taken + 1;
+    let kept = book.kept + 1;
     let booked = Book {
         chambers: book.chambers,
         run: book.run,
         clock: ready,
-        taken: book.taken + 1,
-        kept: book.kept + 1,
+        taken,
+        kept,
         free,
     };
     Taken {

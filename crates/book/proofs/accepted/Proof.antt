@@ -1,0 +1,32 @@
+-- `accepted` stores the free hour of the chamber, counts the order as taken and kept, and moves the clock.
+use mathlib.Core.Path.{refl}
+use borrow.Author.Needs.{needs}
+use Rattle.book.proofs.accepted.Statement.{statement}
+use Rattle.book.proofs.accepted.Tie as tie
+
+sub-at : tie.Need-sub-at
+sub-at c = search needs
+
+cast-at : tie.Need-cast-at
+cast-at c = search needs
+
+add-free : tie.Need-add-free
+add-free c = search needs
+
+mul-free : tie.Need-mul-free
+mul-free c = search needs
+
+array-write-free : tie.Need-array-write-free
+array-write-free c = search needs
+
+add-taken : tie.Need-add-taken
+add-taken c = search needs
+
+add-kept : tie.Need-add-kept
+add-kept c = search needs
+
+returns : tie.Need-returns
+returns c = record { said = refl; next = refl }
+
+pub accepted-spec : {M : Type 1} → statement M
+accepted-spec = tie.close (tie.spec sub-at cast-at add-free mul-free array-write-free add-taken add-kept returns)

@@ -1,0 +1,14 @@
+-- `passed` counts the line and keeps the book.
+use mathlib.Core.Path.{refl}
+use borrow.Author.Needs.{needs}
+use Rattle.orders.proofs.passed.Statement.{statement}
+use Rattle.orders.proofs.passed.Tie as tie
+
+past-requires : tie.Need-past-requires
+past-requires c κs = search needs
+
+returns : tie.Need-returns
+returns c = (refl, c .past .ensures)
+
+pub passed-spec : {M : Type 1} → statement M
+passed-spec = tie.close (tie.spec past-requires returns)
