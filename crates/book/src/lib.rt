@@ -1,11 +1,10 @@
 // The book: the rule by which an order is answered, with the free hours of the chambers.
 // Any numbers may come, and any book, sound or not. Assumes nothing.
 ghost use mathlib.Core.Path.{_≡_};
-ghost use mathlib.Core.Bool.{cond, _&&_};
+ghost use mathlib.Core.Bool.{_&&_};
 ghost use Prim.Native.Nat.{_<_};
 ghost use lib.ListN.{take, drop};
 ghost use Rattle.ground.specs.Limits.{mostOrders};
-ghost use Rattle.ground.specs.Range.{within};
 ghost use Rattle.ground.specs.Refusal.{right, numberOf};
 ghost use Rattle.book.specs.Soundness.{lastFreeHour, allUpTo, isSound, freshBook, opened};
 ghost use Rattle.choice.specs.BestFit.{bestFit};
@@ -14,6 +13,8 @@ ghost use Rattle.book.specs.Taking.{decided, told, Answered};
 ghost use Rattle.book.specs.Settling.{Settles};
 use choice::Choice;
 use choice::best_fit;
+use ground::check;
+use ground::within;
 
 // How many free hours a book holds: one for each chamber that there can be.
 const FREE_HOURS: usize = ground::MOST_CHAMBERS as usize;
@@ -62,20 +63,6 @@ fn all_up_to(limit: u32, hours: &[u32], from: usize) -> bool
         at += 1;
     }
     true
-}
-
-// A check's number where it is not met, else what the checks after it come to; 0 is no refusal.
-fn check(met: bool, number: u32, rest: u32) -> u32
-    ensures { λ r. ⌜ r ≡ cond met rest number ⌝ }
-{
-    if met { rest } else { number }
-}
-
-// A number lies in a range; both ends belong to it.
-fn within(low: u32, high: u32, number: u32) -> bool
-    ensures { λ r. ⌜ r ≡ within low high number ⌝ }
-{
-    (low <= number) & (number <= high)
 }
 
 impl Book {

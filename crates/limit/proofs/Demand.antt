@@ -5,8 +5,7 @@ use mathlib.Core.Path.{_≡_, refl}
 use mathlib.Core.List.{List}
 use lib.ListN.{length}
 use Rattle.ground.specs.Refusal.{right}
-use Rattle.ground.specs.Limits.{longestText}
-use Rattle.planlines.specs.Writing.{firstOrderLine}
+use Rattle.ground.specs.Limits.{longestText, firstOrderLine}
 use Rattle.book.specs.Soundness.{freshBook}
 use Rattle.book.specs.declared.Book.{Book}
 use Rattle.orders.specs.Answers.{CleanList, orderLines, answersFrom, yeses, yesPlan}

@@ -5,9 +5,8 @@ use mathlib.Core.List.{List, map}
 use lib.ListN.{length, length-append, length-map, length-replicate}
 use native.Mathlib.Omega.{arith}
 use Rattle.ground.specs.Refusal.{right}
-use Rattle.ground.specs.Limits.{mostChambers, mostOrders, longestText}
+use Rattle.ground.specs.Limits.{mostChambers, mostOrders, longestText, firstOrderLine}
 use Rattle.texts.specs.Lines.{linesOf, lineAt}
-use Rattle.planlines.specs.Writing.{firstOrderLine}
 use Rattle.lines.specs.declared.Heading.{Heading}
 use Rattle.lines.specs.declared.Order.{Order}
 use Rattle.lines.specs.declared.Load.{Load}

@@ -10,7 +10,7 @@ use borrow.Author.Tests.{leb-true, leb-false, le-leb, lt-leb}
 use Rattle.ground.specs.Refusal.{check, numberOf}
 use Rattle.ground.specs.Range.{within}
 use Rattle.ground.proofs.Tests.{by-test}
-use Rattle.planlines.specs.Writing.{firstOrderLine}
+use Rattle.ground.specs.Limits.{firstOrderLine}
 
 -- past the end of a list there is none
 pub getD-past : (hours : List ℕ) (place : ℕ) → length hours ≤ place → getD hours place 0 ≡ 0

@@ -5,7 +5,7 @@ use mathlib.Core.List.{List}
 use Rattle.ground.specs.Refusal.{numberOf}
 use Rattle.ground.specs.Outcome.{Single}
 use Rattle.ground.proofs.Outcome.{single-value}
-use Rattle.planlines.specs.Writing.{firstOrderLine}
+use Rattle.ground.specs.Limits.{firstOrderLine}
 use Rattle.lines.specs.declared.Load.{Load}
 use Rattle.loads.specs.Checks.{loadMarked, overlap}
 

@@ -6,7 +6,7 @@ use lib.ListN.{length, getD}
 use lib.Dec.{leb, ltb, eqb}
 use Rattle.ground.specs.Refusal.{Read, check, _>>_}
 use Rattle.ground.specs.Range.{within}
-use Rattle.planlines.specs.Writing.{firstOrderLine}
+use Rattle.ground.specs.Limits.{firstOrderLine}
 use Rattle.lines.specs.declared.Load.{Load}
 
 -- what is asked of a load in its order, 11 to 14, for orders with these hours: "a plan line names no order line of the list (0, 1, or past the end)", "the same order stands on an earlier plan line", unless the load is alone with its order, "start is before ready", "start plus run is after due"

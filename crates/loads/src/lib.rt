@@ -1,15 +1,15 @@
 // A load of a plan held against the order that it names, and against another load.
 // Any numbers may come, and any hours of orders. Assumes nothing.
 ghost use mathlib.Core.Path.{_≡_};
-ghost use mathlib.Core.Bool.{cond};
 ghost use Prim.Native.Nat.{_-_, suc};
 ghost use lib.ListN.{getD};
 ghost use Rattle.ground.specs.Refusal.{numberOf};
 ghost use Rattle.ground.specs.Range.{within};
-ghost use Rattle.planlines.specs.Writing.{firstOrderLine};
+ghost use Rattle.ground.specs.Limits.{firstOrderLine};
 ghost use Rattle.loads.specs.Checks.{loadMarked, overlap};
+use ground::FIRST_ORDER_LINE;
+use ground::check;
 use lines::Load;
-use planlines::FIRST_ORDER_LINE;
 
 // One of some hours; 0 where there are fewer.
 fn hour_at(hours: &[u32], place: usize) -> u32
@@ -19,13 +19,6 @@ fn hour_at(hours: &[u32], place: usize) -> u32
         return hours[place];
     }
     0
-}
-
-// A check's number where it is not met, else what the checks after it come to; 0 is no refusal.
-fn check(met: bool, number: u32, rest: u32) -> u32
-    ensures { λ r. ⌜ r ≡ cond met rest number ⌝ }
-{
-    if met { rest } else { number }
 }
 
 // The place of an order among those of its list.

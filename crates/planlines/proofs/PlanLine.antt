@@ -12,7 +12,7 @@ use borrow.Author.Tests.{leb-true, le-leb}
 use borrow.Rule.Slice.PartMut.{putMid, midOf, mid-len}
 use Rattle.ground.specs.Refusal.{right, wrong, check, _>>=_, _>>_}
 use Rattle.ground.specs.Range.{within}
-use Rattle.ground.specs.Limits.{lastHour, mostChambers}
+use Rattle.ground.specs.Limits.{lastHour, mostChambers, firstOrderLine, lastOrderLine}
 use Rattle.ground.specs.Digits.{spelled}
 use Rattle.ground.specs.Buffer.{onto, fitted, lengthOf}
 use Rattle.ground.proofs.Tests.{by-test, never-both, not-met, both, first-of, second-of}
@@ -23,7 +23,7 @@ use Rattle.hours.specs.Classes.{comma}
 use Rattle.writer.specs.Writing.{hourText, hourWritten}
 use Rattle.texts.specs.Lines.{lineEnd}
 use Rattle.fields.specs.Fields.{tab}
-use Rattle.planlines.specs.Writing.{firstOrderLine, lastOrderLine, InRange, inRange, planText, planWritten}
+use Rattle.planlines.specs.Writing.{InRange, inRange, planText, planWritten}
 
 -- A front stands in a buffer that has room for one piece behind it and for nothing else.
 module _ (front buffer : List ℕ) (at : ℕ) (here : at ≡ length front) where

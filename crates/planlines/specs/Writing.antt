@@ -1,23 +1,16 @@
 -- How a plan line is written "from its three numbers (order line 2 to 513, chamber 1 to 8, start)". Assumes nothing.
-use Prim.Native.Nat.{ℕ, suc, _≤_}
+use Prim.Native.Nat.{ℕ, _≤_}
 use mathlib.Core.Bool.{Bool, _&&_}
 use mathlib.Core.List.{List, [], _∷_, _++_}
 use lib.Dec.{leb}
 use Rattle.ground.specs.Refusal.{Read, right, check, _>>=_, _>>_}
 use Rattle.ground.specs.Range.{within}
-use Rattle.ground.specs.Limits.{lastHour, mostChambers, mostOrders}
+use Rattle.ground.specs.Limits.{lastHour, mostChambers, firstOrderLine, lastOrderLine}
 use Rattle.ground.specs.Digits.{spelled}
 use Rattle.hours.specs.Classes.{comma}
 use Rattle.writer.specs.Writing.{hourText, hourWritten}
 use Rattle.texts.specs.Lines.{lineEnd}
 use Rattle.fields.specs.Fields.{tab}
-
--- "the first line is 1, so orders start at 2": the lines that an order can stand on
-abbrev pub firstOrderLine : ℕ
-firstOrderLine = 2
-
-abbrev pub lastOrderLine : ℕ
-lastOrderLine = suc mostOrders
 
 -- the three numbers lie in their ranges
 pub record InRange (order chamber start : ℕ) : Type 0 where

@@ -4,7 +4,6 @@ ghost use mathlib.Core.Path.{_≡_};
 ghost use mathlib.Core.List.{[], _∷_, _++_};
 ghost use Prim.Native.Nat.{_+_, _≤_};
 ghost use lib.ListN.{length};
-ghost use Rattle.ground.specs.Range.{within};
 ghost use Rattle.ground.specs.Limits.{lastHour};
 ghost use Rattle.ground.specs.Digits.{spelled};
 ghost use Rattle.ground.specs.Buffer.{fitted, lengthOf, bufferAfter};
@@ -13,27 +12,16 @@ ghost use Rattle.writer.specs.Writing.{hourText, asLength};
 ghost use Rattle.texts.specs.Lines.{lineEnd};
 ghost use Rattle.fields.specs.Fields.{tab};
 ghost use Rattle.planlines.specs.Writing.{inRange, planText, planWritten};
+use ground::FIRST_ORDER_LINE;
 use ground::LAST_HOUR;
+use ground::LAST_ORDER_LINE;
 use ground::MOST_CHAMBERS;
-use ground::MOST_ORDERS;
+use ground::within;
 use writer::Written;
 use writer::digit_count;
 use writer::put_digits;
 use writer::write_hour;
 use writer::writing_refusal;
-
-// The first line that an order can stand on: line 1 is no order.
-pub const FIRST_ORDER_LINE: u32 = 2;
-
-// The last one, in a list of as many orders as a book takes.
-const LAST_ORDER_LINE: u32 = MOST_ORDERS + 1;
-
-// A number lies in a range; both ends belong to it.
-fn within(low: u32, high: u32, number: u32) -> bool
-    ensures { λ r. ⌜ r ≡ within low high number ⌝ }
-{
-    (low <= number) & (number <= high)
-}
 
 // The three numbers of a plan line lie in their ranges.
 fn in_range(order: u32, chamber: u32, start: u32) -> bool

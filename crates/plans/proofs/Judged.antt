@@ -10,12 +10,11 @@ use lib.Dec.{leb, ltb}
 use native.Mathlib.Omega.{arith}
 use borrow.Author.Tests.{leb-true, leb-false, le-leb, lt-leb, ltb-true, ltb-false}
 use Rattle.ground.specs.Refusal.{Or, Read, wrong, right, _>>=_}
-use Rattle.ground.specs.Limits.{longestText}
+use Rattle.ground.specs.Limits.{longestText, firstOrderLine}
 use Rattle.ground.proofs.Refusal.{never-right, same-right, same-wrong}
 use Rattle.ground.proofs.Tests.{by-test}
-use Rattle.texts.specs.Lines.{linesOf, lineLength, lineAt, pastLine}
+use Rattle.texts.specs.Lines.{linesOf, lineLength, lineAt, pastLine, partOf}
 use Rattle.lines.specs.Reading.{headingOf, loadOf}
-use Rattle.planlines.specs.Writing.{firstOrderLine}
 use Rattle.texts.specs.Meaning.{joined}
 use Rattle.lines.specs.declared.Heading.{Heading}
 use Rattle.lines.specs.declared.Order.{Order}
@@ -25,7 +24,6 @@ use Rattle.texts.proofs.Promises.{lines-joined, walk-on, walk-done}
 use Rattle.lines.proofs.Promises.{heading-fault}
 use Rattle.orders.specs.Answers.{orderLines}
 use Rattle.plans.specs.Judging.{faultAt, listJudged, planJudged, loadsCounted, bothJudged, judged, shown}
-use Rattle.texts.specs.Lines.{partOf}
 use Rattle.plans.specs.Meaning.{CleanList, GoodLoads, Obeys, FirstFault, list-long, plan-long, in-heading, in-list, in-plan}
 use Rattle.plans.specs.declared.Fault.{Fault}
 use Rattle.plans.proofs.Each.{each-none, two-none}

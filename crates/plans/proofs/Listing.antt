@@ -9,12 +9,11 @@ use lib.Dec.{leb}
 use native.Mathlib.Omega.{arith}
 use borrow.Author.Tests.{leb-true, leb-false}
 use Rattle.ground.specs.Refusal.{Read, wrong, right, _>>=_}
-use Rattle.ground.specs.Limits.{lastHour, mostOrders}
+use Rattle.ground.specs.Limits.{lastHour, mostOrders, firstOrderLine}
 use Rattle.ground.proofs.Refusal.{never-right, same-right}
 use Rattle.ground.proofs.Tests.{by-test}
 use Rattle.texts.specs.Lines.{lineAt, pastLine}
 use Rattle.lines.specs.Reading.{headingOf, orderOf}
-use Rattle.planlines.specs.Writing.{firstOrderLine}
 use Rattle.texts.specs.Meaning.{joined}
 use Rattle.lines.specs.declared.Heading.{Heading}
 use Rattle.lines.specs.declared.Order.{Order}

@@ -15,14 +15,13 @@ use Rattle.ground.proofs.Refusal.{never-right, same-right, same-wrong}
 use Rattle.ground.proofs.Range.{within-from, within-low, within-high}
 use Rattle.ground.proofs.Tests.{never-both, not-met, both, first-of, second-of}
 use Rattle.lines.specs.Reading.{loadOf}
-use Rattle.planlines.specs.Writing.{firstOrderLine}
+use Rattle.ground.specs.Limits.{firstOrderLine}
 use Rattle.lines.specs.declared.Heading.{Heading}
 use Rattle.lines.specs.declared.Order.{Order}
 use Rattle.lines.specs.declared.Load.{Load}
 use Rattle.lines.proofs.Promises.{load-fault}
 use Rattle.plans.specs.Judging.{PlanKnown, standsIn, overlapsAny, noteLoad}
-use Rattle.loads.specs.Checks.{loadAsked}
-use Rattle.loads.specs.Checks.{overlap}
+use Rattle.loads.specs.Checks.{loadAsked, overlap}
 use Rattle.plans.specs.Meaning.{Each, Some, Names, InTime, holdOf, Overlap, Apart, LoadWrong, misread, unlisted, again, early, late, overlapping}
 use Rattle.plans.proofs.Each.{each-so, anyOf, any-some, any-none, some-any, none-any}
 use Rattle.plans.proofs.Through.{both-right, one-wrong}

@@ -10,26 +10,23 @@ use native.Mathlib.Omega.{arith}
 use lib.Dec.{leb, eqb}
 use borrow.Author.Tests.{eqb-true, eqb-false, ne-eqb}
 use Rattle.ground.specs.Refusal.{Read, wrong, right, check, numberOf, _>>=_, _>>_}
-use Rattle.ground.specs.Limits.{longestText, mostOrders}
+use Rattle.ground.specs.Limits.{longestText, mostOrders, firstOrderLine}
 use Rattle.ground.specs.Range.{within}
 use Rattle.ground.proofs.Refusal.{refused-by}
 use Rattle.ground.proofs.Tests.{by-test, never-both}
 use Rattle.ground.proofs.Range.{within-low, within-high}
 use Rattle.texts.specs.Lines.{linesOf, lineAt, pastLine}
 use Rattle.lines.specs.Reading.{loadOf}
-use Rattle.planlines.specs.Writing.{firstOrderLine}
 use Rattle.lines.specs.declared.Heading.{Heading}
 use Rattle.lines.specs.declared.Load.{Load}
 use Rattle.texts.proofs.Promises.{walk-on}
-use Rattle.texts.proofs.WholeText.{lines-within}
+use Rattle.texts.proofs.WholeText.{lines-within, part-is-line}
 use Rattle.plans.specs.Judging.{through, PlanKnown, standsIn, overlapsAny, loadChecked, noteLoad, planJudged, loadsCounted}
-use Rattle.loads.specs.Checks.{overlap}
-use Rattle.loads.specs.Checks.{loadAsked, loadMarked}
+use Rattle.loads.specs.Checks.{overlap, loadAsked, loadMarked}
 use Rattle.plans.specs.Steps.{loadRefusal, Loaded}
 use Rattle.plans.specs.declared.LoadNoted.{LoadNoted}
 use Rattle.plans.proofs.Loading.{taken-there}
 use Rattle.plans.proofs.Pigeonhole.{OrderLines, few-loads, no-order-lines, order-lines-more}
-use Rattle.texts.proofs.WholeText.{part-is-line}
 use Rattle.plans.proofs.Going.{through-done, through-on, through-stops}
 
 -- a test whose contrary holds fails

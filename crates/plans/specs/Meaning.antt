@@ -6,10 +6,9 @@ use mathlib.Core.Bool.{true, false}
 use mathlib.Core.List.{List, [], _∷_, _++_, map}
 use lib.ListN.{length}
 use Rattle.ground.specs.Refusal.{right}
-use Rattle.ground.specs.Limits.{longestText, mostOrders}
+use Rattle.ground.specs.Limits.{longestText, mostOrders, firstOrderLine}
 use Rattle.texts.specs.Lines.{linesOf, lineAt}
 use Rattle.lines.specs.Reading.{headingOf, orderOf, loadOf}
-use Rattle.planlines.specs.Writing.{firstOrderLine}
 use Rattle.texts.specs.Meaning.{joined}
 use Rattle.lines.specs.Meaning.{HeadingFault, OrderFault, LoadFault}
 use Rattle.lines.specs.declared.Heading.{Heading}

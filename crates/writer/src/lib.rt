@@ -11,6 +11,7 @@ ghost use Rattle.ground.specs.Buffer.{fitted, lengthOf, bufferAfter};
 ghost use Rattle.hours.specs.Classes.{comma};
 ghost use Rattle.writer.specs.Writing.{hourWritten, asLength, frontOf, textIn};
 use ground::LAST_HOUR;
+use ground::check;
 
 // What a writing answers: the length of what stands at the buffer's front now, or the refusal's number.
 pub enum Written {
@@ -42,13 +43,6 @@ pub fn put_digits(number: u32, buffer: &mut [u8])
         buffer[at] = b'0' + (left % 10) as u8;
         left /= 10;
     }
-}
-
-// A check's number where it is not met, else what the checks after it come to; 0 is no refusal.
-fn check(met: bool, number: u32, rest: u32) -> u32
-    ensures { λ r. ⌜ r ≡ cond met rest number ⌝ }
-{
-    if met { rest } else { number }
 }
 
 // The refusal of a text of this length, to be written where there is this room: 4 where its numbers are out of range, then 7; 0 is none.

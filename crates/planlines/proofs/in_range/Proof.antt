@@ -3,8 +3,7 @@ use mathlib.Core.Path.{_≡_, _∙_}
 use native.Mathlib.Omega.{arith}
 use borrow.Author.Needs.{needs}
 use Rattle.ground.specs.Range.{within}
-use Rattle.ground.specs.Limits.{mostChambers}
-use Rattle.planlines.specs.Writing.{firstOrderLine, lastOrderLine}
+use Rattle.ground.specs.Limits.{mostChambers, firstOrderLine, lastOrderLine}
 use Rattle.planlines.proofs.PlanLine.{ranges-agree}
 use Rattle.planlines.proofs.in_range.Statement.{statement}
 use Rattle.planlines.proofs.in_range.Tie as tie
