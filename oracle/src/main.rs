@@ -8,47 +8,23 @@
 //! not be read or run, and 2 if the arguments make no sense. The checker ends
 //! with 0 whatever its arguments are, as its reply tells what was not read.
 
-mod book;
-mod buffer;
-mod case_texts;
 mod cases;
-#[cfg(test)]
-mod cases_tests;
-mod chance;
 mod checker;
-#[cfg(test)]
-mod checker_tests;
-mod clean;
 mod compare;
-mod compare_checker;
-mod compare_desk;
-mod coverage;
-mod coverage_checker;
 mod desk;
-mod faults;
-mod hours;
-mod lines;
-mod lists;
-mod noise;
-mod numbers;
-mod pairs;
-mod plans;
-mod refusal;
-mod show;
-mod spelling;
-#[cfg(test)]
-mod tests;
+mod generate;
 
 use std::env;
 use std::ffi::OsString;
 use std::io::{self, Read, Write};
 use std::process::ExitCode;
 
-use chance::Chance;
+use compare::checker::compare_checker;
+use compare::desk::compare_desk;
 use compare::Findings;
-use compare_checker::compare_checker;
-use compare_desk::compare_desk;
-use pairs::pair;
+use generate::chance::Chance;
+use generate::pairs::pair;
+use generate::{coverage, coverage_checker, lists, noise, plans};
 
 const USAGE: &str = "\
 oracle desk                           answers the order list on standard input
@@ -81,7 +57,10 @@ fn main() -> ExitCode {
         ["pair-list", seed] => on_number(seed, |seed| print(&pair(seed).list.text)),
         ["pair-plan", seed] => on_number(seed, |seed| print(&pair(seed).plan.text)),
         ["noise", length, seed] => on_numbers(length, seed, |length, seed| {
-            print(&noise::any_bytes(&mut Chance::from_seed(seed), length as usize))
+            print(&noise::any_bytes(
+                &mut Chance::from_seed(seed),
+                length as usize,
+            ))
         }),
         ["coverage", count, seed] => on_numbers(count, seed, |count, seed| {
             print(coverage::coverage(count, seed).as_bytes())

@@ -4,8 +4,8 @@
 //! Assumes that `→` in a test's text stands for `\t` and `¶` for `\n`, so that
 //! lists and plans look much as in the paper.
 
-use crate::case_texts::{read_case_text, write_case_text};
 use crate::cases::reply;
+use crate::cases::texts::{read_case_text, write_case_text};
 
 const LIST: &str = "steam→2→3¶7→0→20¶7→0→20¶7→0→20¶12→1→11¶12→1→11¶3→2→8¶3→2→8¶3→2→8¶3→2→8¶";
 const PLAN: &str = "7→1→2¶8→2→2¶9→1→5¶10→2→5¶5→1→8¶6→2→8¶2→1→11¶3→2→11¶4→1→14¶";

@@ -10,8 +10,8 @@
 //! - `\e`: no byte at all, so that the empty text can be written;
 //! - `\{N}`: the byte before it stands N times in all. It is read only.
 
-use crate::lines::{LINE_END, TAB};
-use crate::numbers::read_digit;
+use crate::desk::lines::{LINE_END, TAB};
+use crate::desk::numbers::read_digit;
 
 /// Longer texts are not read. It is a little more than a list or a plan may
 /// have, so that one that is too long can be written.

@@ -4,15 +4,15 @@
 //! Assumes that the program is called for each seed as in the comparison, so a
 //! pair whose list or plan cannot be read counts only as that.
 
-use crate::book::MOST_TAKEN;
 use crate::checker::{judge, overlap, Fault, Judgement, Text};
-use crate::compare_checker::Call;
-use crate::coverage::kind_table;
-use crate::lines::{lines, read_load, Load, LONGEST_TEXT};
-use crate::lists::{self, Program};
-use crate::pairs::{pair, Pair};
-use crate::plans::{self, season_of, Season};
-use crate::refusal::Refusal;
+use crate::compare::checker::Call;
+use crate::desk::book::MOST_TAKEN;
+use crate::desk::lines::{lines, read_load, Load, LONGEST_TEXT};
+use crate::desk::refusal::Refusal;
+use crate::generate::coverage::kind_table;
+use crate::generate::lists::{self, Program};
+use crate::generate::pairs::{pair, Pair};
+use crate::generate::plans::{self, season_of, Season};
 
 /// The outcomes counted. What stands behind a comma is counted once more.
 const OUTCOMES: [&str; 30] = [

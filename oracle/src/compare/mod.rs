@@ -4,13 +4,17 @@
 //! Assumes that the other program ends with success and prints its reply on
 //! its standard output, and that the two replies must agree in every byte.
 
+pub mod checker;
+pub mod desk;
+pub mod show;
+
 use std::io;
 use std::process::ExitStatus;
 use std::sync::atomic::{AtomicU64, Ordering};
 use std::thread;
 
-use crate::lines::lines;
-use crate::show::readable_line;
+use crate::compare::show::readable_line;
+use crate::desk::lines::lines;
 
 /// So many inputs are tried side by side.
 const WORKERS: usize = 2;

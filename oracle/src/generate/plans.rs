@@ -4,14 +4,14 @@
 //! passed over, and a list whose first line does not read has no orders. A
 //! plan is right only if the list is clean and nothing was spoiled.
 
-use crate::book::{Answer, Book, MOST_TAKEN};
-use crate::chance::Chance;
-use crate::faults::{damage, damage_fields, PLAN};
-use crate::hours::LAST_HOUR;
-use crate::lines::{lines, read_heading, read_order, Heading, Load, Order};
-use crate::lists::{list, Made};
-use crate::noise::{any_bytes, length_about_limit, line_bytes, stretch};
-use crate::spelling::{join_fields, spell_hour, spell_number, Spelling};
+use crate::desk::book::{Answer, Book, MOST_TAKEN};
+use crate::desk::hours::LAST_HOUR;
+use crate::desk::lines::{lines, read_heading, read_order, Heading, Load, Order};
+use crate::generate::chance::Chance;
+use crate::generate::faults::{damage, damage_fields, PLAN};
+use crate::generate::lists::{list, Made};
+use crate::generate::noise::{any_bytes, length_about_limit, line_bytes, stretch};
+use crate::generate::spelling::{join_fields, spell_hour, spell_number, Spelling};
 
 /// What a plan has to know of its list, which may be a bad one.
 pub struct Season {

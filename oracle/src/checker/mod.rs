@@ -6,14 +6,17 @@
 //! for the refusals that the desk would give; its yes and no do not matter,
 //! since a plan may be made by anybody.
 
+#[cfg(test)]
+mod tests;
+
 use std::ffi::OsString;
 use std::fs;
 
-use crate::book::{Answer, Book, MOST_CHAMBERS};
-use crate::lines::{lines, read_heading, read_load, read_order};
-use crate::lines::{Heading, Order, FIRST_ORDER_LINE, LINE_END, LONGEST_TEXT, TAB};
-use crate::numbers::write_number;
-use crate::refusal::Refusal;
+use crate::desk::book::{Answer, Book, MOST_CHAMBERS};
+use crate::desk::lines::{lines, read_heading, read_load, read_order};
+use crate::desk::lines::{Heading, Order, FIRST_ORDER_LINE, LINE_END, LONGEST_TEXT, TAB};
+use crate::desk::numbers::write_number;
+use crate::desk::refusal::Refusal;
 
 /// One of the two texts, in the order of the program's arguments.
 #[derive(Clone, Copy, Debug, PartialEq, Eq)]

@@ -12,10 +12,10 @@ use std::process::{self, Command, Stdio};
 use std::{env, fs, io};
 
 use crate::checker::{self, Text};
+use crate::compare::show::numbered_lines;
 use crate::compare::{self, not_run, Findings, Outcome};
-use crate::lines::TAB;
-use crate::pairs::{pair, Pair};
-use crate::show::numbered_lines;
+use crate::desk::lines::TAB;
+use crate::generate::pairs::{pair, Pair};
 
 /// What stands in the place of one of the two names.
 #[derive(Clone, Copy, PartialEq, Eq)]

@@ -3,7 +3,7 @@
 //! Assumes that what is shown may hold any byte: tabs are shown as arrows,
 //! and every other byte that cannot be seen as its number.
 
-use crate::lines::{lines, LINE_END, TAB};
+use crate::desk::lines::{lines, LINE_END, TAB};
 
 /// Longer lines are cut when shown.
 const LONGEST_SHOWN_LINE: usize = 300;

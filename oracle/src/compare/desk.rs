@@ -9,10 +9,10 @@ use std::process::{ChildStdin, Command, Stdio};
 use std::thread;
 use std::time::Duration;
 
+use crate::compare::show::numbered_lines;
 use crate::compare::{self, first_differing_line, not_run, Findings, Outcome};
 use crate::desk;
-use crate::lists::list;
-use crate::show::numbered_lines;
+use crate::generate::lists::list;
 
 /// How a list is handed to the other program.
 #[derive(Clone, Copy)]

@@ -4,8 +4,8 @@
 //! and a run stay far below the limit of 32 bits, because a book that is not
 //! sound and an hour out of range are refused before anything is added.
 
-use crate::hours::LAST_HOUR;
-use crate::refusal::{within, Refusal};
+use crate::desk::hours::LAST_HOUR;
+use crate::desk::refusal::{within, Refusal};
 
 pub const MOST_CHAMBERS: u32 = 8;
 pub const MOST_TAKEN: u32 = 512;

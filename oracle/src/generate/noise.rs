@@ -4,8 +4,8 @@
 //! Assumes that bytes of any value may come, and that most noise worth having
 //! is made of the few bytes that good texts are made of.
 
-use crate::chance::Chance;
-use crate::lines::{LINE_END, LONGEST_TEXT};
+use crate::desk::lines::{LINE_END, LONGEST_TEXT};
+use crate::generate::chance::Chance;
 
 /// The bytes of good lines, with tabs and line ends often enough that lines
 /// of three fields come about.

@@ -4,9 +4,9 @@
 //! Assumes the shape of the desk's own reply, from which it is counted.
 
 use crate::desk;
-use crate::lines::{lines, TAB};
-use crate::lists::{self, Program};
-use crate::plans;
+use crate::desk::lines::{lines, TAB};
+use crate::generate::lists::{self, Program};
+use crate::generate::plans;
 
 /// The answers counted, as the first words after the line number.
 const ANSWERS: [&str; 9] = ["yes", "no", "1", "2", "3", "4", "5", "6", "9"];

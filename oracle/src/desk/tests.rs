@@ -2,13 +2,13 @@
 //!
 //! Assumes that `→` in a test's text stands for one tab, as in the paper.
 
-use crate::book::{Answer, Book, MOST_TAKEN};
+use crate::desk::book::{Answer, Book, MOST_TAKEN};
+use crate::desk::hours::{read_hour, write_hour, LAST_HOUR};
+use crate::desk::lines::{LINE_END, LONGEST_TEXT};
+use crate::desk::refusal::Refusal;
 use crate::desk::reply;
-use crate::hours::{read_hour, write_hour, LAST_HOUR};
-use crate::lines::{LINE_END, LONGEST_TEXT};
-use crate::lists::list;
-use crate::plans::plan;
-use crate::refusal::Refusal;
+use crate::generate::lists::list;
+use crate::generate::plans::plan;
 
 pub fn bytes(text: &str) -> Vec<u8> {
     text.replace('→', "\t").into_bytes()

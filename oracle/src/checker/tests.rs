@@ -6,11 +6,11 @@
 use std::env;
 use std::ffi::OsString;
 
-use crate::book::MOST_TAKEN;
 use crate::checker::{judge, reply, Judgement};
-use crate::lines::{LINE_END, LONGEST_TEXT};
-use crate::pairs::pair;
-use crate::tests::bytes;
+use crate::desk::book::MOST_TAKEN;
+use crate::desk::lines::{LINE_END, LONGEST_TEXT};
+use crate::desk::tests::bytes;
+use crate::generate::pairs::pair;
 
 const LIST: &str = "steam→2→3\n7→0→20\n7→0→20\n7→0→20\n12→1→11\n12→1→11\n\
                     3→2→8\n3→2→8\n3→2→8\n3→2→8\n";

@@ -5,11 +5,11 @@
 //! just do not. So a book is kept beside the list, and ready and due hours are
 //! laid about the hours at which its chambers become free.
 
-use crate::book::{Book, LONGEST_RUN, MOST_CHAMBERS};
-use crate::chance::Chance;
-use crate::hours::LAST_HOUR;
-use crate::lines::Heading;
-use crate::spelling::{join_fields, spell_hour, spell_number, Spelling};
+use crate::desk::book::{Book, LONGEST_RUN, MOST_CHAMBERS};
+use crate::desk::hours::LAST_HOUR;
+use crate::desk::lines::Heading;
+use crate::generate::chance::Chance;
+use crate::generate::spelling::{join_fields, spell_hour, spell_number, Spelling};
 
 /// How the orders of a list lie.
 pub struct Manner {

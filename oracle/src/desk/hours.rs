@@ -5,9 +5,9 @@
 //! `LAST_HOUR`, and that a field comes without the tabs and the line end
 //! around it.
 
-use crate::buffer::put_in_front;
-use crate::numbers::{read_digit, read_plain_number, write_number};
-use crate::refusal::{within, Refusal};
+use crate::desk::buffer::put_in_front;
+use crate::desk::numbers::{read_digit, read_plain_number, write_number};
+use crate::desk::refusal::{within, Refusal};
 
 /// The last hour, 9999,99 as text.
 pub const LAST_HOUR: u32 = 999_999;

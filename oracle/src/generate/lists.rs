@@ -4,12 +4,12 @@
 //! then everything in it. Most kinds are short, so that many lists can be
 //! tried; the weights keep the long ones few.
 
-use crate::book::MOST_TAKEN;
-use crate::chance::Chance;
-use crate::clean::{clean_lines, late_manner, plain_manner, roomy_manner, tight_manner};
-use crate::faults::{damage, earlier_ready, HEADING, ORDER};
-use crate::noise::{any_bytes, hour_noise_line, length_about_limit, line_bytes, stretch};
-use crate::spelling::Spelling;
+use crate::desk::book::MOST_TAKEN;
+use crate::generate::chance::Chance;
+use crate::generate::clean::{clean_lines, late_manner, plain_manner, roomy_manner, tight_manner};
+use crate::generate::faults::{damage, earlier_ready, HEADING, ORDER};
+use crate::generate::noise::{any_bytes, hour_noise_line, length_about_limit, line_bytes, stretch};
+use crate::generate::spelling::Spelling;
 
 /// A generated text and the name of its kind.
 pub struct Made {

@@ -7,15 +7,19 @@
 //! its results. Empty lines, and lines that begin with `#`, come back as they
 //! are, and a case that makes no sense has the one result `unread`.
 
-use crate::book::{Answer, Book};
-use crate::case_texts::{read_case_number, read_case_text, write_case_text};
+#[cfg(test)]
+mod tests;
+mod texts;
+
+use crate::cases::texts::{read_case_number, read_case_text, write_case_text};
 use crate::checker::{judge, Judgement};
 use crate::desk;
-use crate::hours::put_hour;
-use crate::lines::{hour_field, lines, number_field, put_load};
-use crate::lines::{read_heading, read_load, read_order, Load, LINE_END};
-use crate::numbers::write_number;
-use crate::refusal::Refusal;
+use crate::desk::book::{Answer, Book};
+use crate::desk::hours::put_hour;
+use crate::desk::lines::{hour_field, lines, number_field, put_load};
+use crate::desk::lines::{read_heading, read_load, read_order, Load, LINE_END};
+use crate::desk::numbers::write_number;
+use crate::desk::refusal::Refusal;
 
 /// The largest buffer that a case may ask for.
 const MOST_ROOM: u32 = 64;

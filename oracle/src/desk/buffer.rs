@@ -3,7 +3,7 @@
 //! Assumes that the text was made from numbers in range, since a number out
 //! of range is refused before the room is looked at.
 
-use crate::refusal::Refusal;
+use crate::desk::refusal::Refusal;
 
 /// Puts the text at the front of the buffer and gives its length. The bytes
 /// behind it stay, and all bytes stay where the room is too short.

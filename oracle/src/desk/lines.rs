@@ -5,11 +5,11 @@
 //! with byte 10. A line is handed about with its line end, so that the last
 //! line can be seen to lack one.
 
-use crate::book::{LONGEST_RUN, MOST_CHAMBERS, MOST_TAKEN};
-use crate::buffer::put_in_front;
-use crate::hours::{read_hour, write_hour, LAST_HOUR};
-use crate::numbers::{read_plain_number, write_number};
-use crate::refusal::{within, Refusal};
+use crate::desk::book::{LONGEST_RUN, MOST_CHAMBERS, MOST_TAKEN};
+use crate::desk::buffer::put_in_front;
+use crate::desk::hours::{read_hour, write_hour, LAST_HOUR};
+use crate::desk::numbers::{read_plain_number, write_number};
+use crate::desk::refusal::{within, Refusal};
 
 pub const TAB: u8 = 9;
 pub const LINE_END: u8 = 10;

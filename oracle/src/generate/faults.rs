@@ -4,9 +4,9 @@
 //! faults on one line are wanted, because they show the order of the checks.
 //! A fault may by chance leave the line good.
 
-use crate::chance::Chance;
-use crate::lines::{read_order, LINE_END, TAB};
-use crate::spelling::{join_fields, spell_hour, Spelling};
+use crate::desk::lines::{read_order, LINE_END, TAB};
+use crate::generate::chance::Chance;
+use crate::generate::spelling::{join_fields, spell_hour, Spelling};
 
 #[derive(Clone, Copy)]
 pub enum Field {

@@ -3,11 +3,20 @@
 //! Assumes that the list is handed over whole, so that its length is known
 //! before the first line is read.
 
-use crate::book::{Answer, Book};
-use crate::hours::write_hour;
-use crate::lines::{lines, read_heading, read_order, LINE_END, LONGEST_TEXT, TAB};
-use crate::numbers::write_number;
-use crate::refusal::Refusal;
+pub mod book;
+pub mod buffer;
+pub mod hours;
+pub mod lines;
+pub mod numbers;
+pub mod refusal;
+#[cfg(test)]
+pub mod tests;
+
+use crate::desk::book::{Answer, Book};
+use crate::desk::hours::write_hour;
+use crate::desk::lines::{lines, read_heading, read_order, LINE_END, LONGEST_TEXT, TAB};
+use crate::desk::numbers::write_number;
+use crate::desk::refusal::Refusal;
 
 /// What the desk program prints for this list.
 pub fn reply(list: &[u8]) -> Vec<u8> {

@@ -3,10 +3,10 @@
 //! Assumes that the hours handed in are in range; the numbers may be out of
 //! theirs, since faulty lines are wanted too.
 
-use crate::chance::Chance;
-use crate::hours::write_hour;
-use crate::lines::{LINE_END, TAB};
-use crate::numbers::write_number;
+use crate::desk::hours::write_hour;
+use crate::desk::lines::{LINE_END, TAB};
+use crate::desk::numbers::write_number;
+use crate::generate::chance::Chance;
 
 #[derive(Clone, Copy)]
 pub enum Spelling {

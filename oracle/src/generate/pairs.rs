@@ -3,11 +3,11 @@
 //! Assumes that the seed alone decides: the list is drawn first, and the plan
 //! is made for it.
 
-use crate::chance::Chance;
-use crate::lines::LONGEST_TEXT;
-use crate::lists::{list_for, Made, Program};
-use crate::noise::{length_about_limit, stretch};
-use crate::plans::plan_for;
+use crate::desk::lines::LONGEST_TEXT;
+use crate::generate::chance::Chance;
+use crate::generate::lists::{list_for, Made, Program};
+use crate::generate::noise::{length_about_limit, stretch};
+use crate::generate::plans::plan_for;
 
 pub struct Pair {
     pub list: Made,
