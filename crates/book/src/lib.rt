@@ -9,7 +9,7 @@ ghost use Rattle.ground.specs.Refusal.{right, numberOf};
 ghost use Rattle.book.specs.Soundness.{lastFreeHour, allUpTo, isSound, freshBook, opened};
 ghost use Rattle.choice.specs.BestFit.{bestFit};
 ghost use Rattle.choice.specs.declared.Choice.the-variants as Choice;
-ghost use Rattle.book.specs.Taking.{decided, told, Answered};
+ghost use Rattle.book.specs.Taking.{hold, decided, told, Answered};
 ghost use Rattle.book.specs.Settling.{Settles};
 use choice::Choice;
 use choice::best_fit;
@@ -94,6 +94,13 @@ impl Book {
         }
     }
 
+    // How long a load takes its chamber.
+    pub fn hold(self) -> u32
+        ensures { λ r. ⌜ r ≡ hold self ⌝ }
+    {
+        self.run
+    }
+
     // An order with these hours: its answer, and the next book.
     pub fn take(self, ready: u32, due: u32) -> Taken
         ensures { λ r. ⌜ Answered self ready (decided self ready due) r ⌝ }
@@ -161,7 +168,7 @@ fn accepted(book: Book, ready: u32, chamber: u32, start: u32) -> Taken
     ensures { λ r. ⌜ Answered book ready (right (Choice.Chamber chamber start)) r ⌝ }
 {
     let at = (chamber - 1) as usize;
-    let hold = book.run;
+    let hold = book.hold();
     let mut free = book.free;
     free[at] = start + hold;
     let taken = book.taken + 1;

@@ -10,13 +10,13 @@ use Rattle.ground.proofs.Refusal.{same-right}
 use Rattle.texts.specs.Lines.{linesOf, lineAt}
 use Rattle.lines.proofs.Promises.{heading-reads}
 use Rattle.book.specs.declared.Book.{Book}
-use Rattle.orders.specs.Answers.{CleanList, orderLines, answersFrom, yeses}
+use Rattle.orders.specs.Answers.{CleanList, orderLines, answersFrom, yeses, bookFor}
 use Rattle.plans.specs.Judging.{judged}
 use Rattle.plans.specs.Meaning.{Obeys}
 use Rattle.plans.proofs.Promises.{right-exactly, clean-as-the-desk}
 use Rattle.bound.specs.Plans.{keptOf}
 use Rattle.bound.proofs.Limit.{limit}
-use Rattle.limit.proofs.Numbers.{asOrder, asPlanLoad, lengthsOf, bookOf}
+use Rattle.limit.proofs.Numbers.{asOrder, asPlanLoad, lengthsOf}
 use Rattle.limit.proofs.Kept.{yeses-are-kept}
 use Rattle.limit.proofs.Turn.{in-turn}
 use Rattle.limit.proofs.Loads.{good-plan}
@@ -30,7 +30,7 @@ take-replicate (suc count) (suc all) value few = ap (λ rest. value ∷ rest) (t
 module _ (list plan : List ℕ) (obeys : Obeys list plan) where
   -- the book that the list begins with
   abbrev listBook : Book
-  listBook = bookOf (obeys .heading)
+  listBook = bookFor (obeys .heading)
 
   -- a list that a plan obeys is clean for the desk
   clean-list : CleanList list listBook

@@ -13,7 +13,8 @@ use Rattle.plans.specs.Meaning.{Each, InTime, holdOf, Apart, GoodLoads}
 use Rattle.plans.proofs.Each.{each-first, each-rest, two-first, two-rest}
 use Rattle.bound.specs.Plans.{KeepsTo, ApartFrom, GoodPlan}
 use Rattle.bound.specs.Plans as bound
-use Rattle.limit.proofs.Numbers.{asOrder, asPlanLoad, lengthsOf, bookOf}
+use Rattle.limit.proofs.Numbers.{asOrder, asPlanLoad, lengthsOf}
+use Rattle.orders.specs.Answers.{bookFor}
 
 -- a load that is in time for an order keeps to it, wherever the order stands
 keeps-at-its-place :
@@ -34,7 +35,7 @@ module _ (heading : Heading) (orders : List Order) where
   -- two loads that are apart by their lines are apart by their orders' places
   both-apart :
       (one other : Load) → InTime (heading .run) orders one → InTime (heading .run) orders other → Apart (holdOf heading) one other
-      → bound.Apart (lengthsOf (bookOf heading)) (asPlanLoad one) (asPlanLoad other)
+      → bound.Apart (lengthsOf (bookFor heading)) (asPlanLoad one) (asPlanLoad other)
   both-apart one other in-time also apart = record {
     orders-differ = λ same. apart .orders-differ (omega arith);
     never-overlap = λ together one-first other-first.
@@ -44,7 +45,7 @@ module _ (heading : Heading) (orders : List Order) where
   -- so is one that is apart from each of several
   apart-from :
       (one : Load) (loads : List Load) → InTime (heading .run) orders one → Each (InTime (heading .run) orders) loads → Each (Apart (holdOf heading) one) loads
-      → ApartFrom (lengthsOf (bookOf heading)) (asPlanLoad one) (map asPlanLoad loads)
+      → ApartFrom (lengthsOf (bookFor heading)) (asPlanLoad one) (map asPlanLoad loads)
   unfolding ApartFrom
   apart-from one [] in-time each apart = tt
   apart-from one (other ∷ loads) in-time each apart =
@@ -53,7 +54,7 @@ module _ (heading : Heading) (orders : List Order) where
   -- plan lines with no fault: their loads are a good plan for the orders of the list
   pub good-plan :
       (lines : List (List ℕ)) (loads : List Load) → GoodLoads heading orders lines loads
-      → GoodPlan (heading .chambers) (lengthsOf (bookOf heading)) (map asOrder orders) (map asPlanLoad loads)
+      → GoodPlan (heading .chambers) (lengthsOf (bookFor heading)) (map asOrder orders) (map asPlanLoad loads)
   unfolding GoodPlan
   good-plan [] [] good = tt
   good-plan [] (load ∷ loads) good = absurd (nil≢cons (good .read))

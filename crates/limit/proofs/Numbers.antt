@@ -7,7 +7,6 @@ use Rattle.lines.specs.declared.Heading.{Heading}
 use Rattle.lines.specs.declared.Order as lines
 use Rattle.lines.specs.declared.Load.{Load}
 use Rattle.book.specs.History.{Order}
-use Rattle.book.specs.Soundness.{freshBook}
 use Rattle.book.specs.Taking.{hold}
 use Rattle.book.specs.declared.Book.{Book}
 use Rattle.bound.specs.Plans.{Lengths, PlanLoad}
@@ -27,7 +26,3 @@ lengthsOf book = record { run = book .run; hold = hold book }
 -- the hours that the chambers of a book are free from
 abbrev pub freeOf : Book → List ℕ
 freeOf book = take (book .chambers) (book .free)
-
--- the book that a list with this first line begins with
-abbrev pub bookOf : Heading → Book
-bookOf heading = freshBook (heading .chambers) (heading .run)

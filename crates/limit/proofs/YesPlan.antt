@@ -13,13 +13,12 @@ use Rattle.lines.specs.declared.Load.{Load}
 use Rattle.lines.proofs.Promises.{heading-reads}
 use Rattle.book.specs.declared.Book.{Book}
 use Rattle.book.specs.declared.Answer.{Answer}
-use Rattle.orders.specs.Answers.{orderLines, answersFrom, yeses, yesPlan, CleanList}
+use Rattle.orders.specs.Answers.{orderLines, answersFrom, yeses, yesPlan, CleanList, bookFor}
 use Rattle.plans.specs.Judging.{judged}
 use Rattle.plans.specs.Meaning as checker
 use Rattle.plans.specs.Meaning.{Each, InTime, Obeys}
 use Rattle.plans.proofs.Each.{each-so}
 use Rattle.plans.proofs.Promises.{right-exactly, clean-as-the-desk}
-use Rattle.limit.proofs.Numbers.{bookOf}
 use Rattle.limit.proofs.YesLoads.{yesLoads, Given, GivenLoads, yeses-given}
 use Rattle.limit.proofs.YesText.{loadText, plan-joined, loads-counted, load-lines, Writable, loads-read, loads-short}
 
@@ -53,7 +52,7 @@ given-writable most few load given =
 module _ (list : List ℕ) (heading : Heading) (orders : List Order) (clean : checker.CleanList list heading orders) where
   -- the book that it begins with
   abbrev book : Book
-  book = bookOf heading
+  book = bookFor heading
 
   -- its answers
   abbrev answers : List Answer

@@ -21,7 +21,7 @@ use Rattle.lines.proofs.Promises.{heading-reads, heading-fault}
 use Rattle.book.specs.Soundness.{freshBook, opened}
 use Rattle.book.specs.declared.Book.{Book}
 use Rattle.book.proofs.Promises.{opened-fresh}
-use Rattle.orders.specs.Answers.{opening, refusedLine}
+use Rattle.orders.specs.Answers.{bookFor, opening, refusedLine}
 
 -- a book that is not opened has every field 0
 pub unopened : opened 0 0 .book ≡ freshBook 0 0
@@ -29,7 +29,7 @@ unfolding opened
 unopened = refl
 
 -- the numbers of a first line open a fresh book
-pub heading-opens : (line : List ℕ) (heading : Heading) → headingOf line ≡ right heading → opened (heading .chambers) (heading .run) .book ≡ freshBook (heading .chambers) (heading .run)
+pub heading-opens : (line : List ℕ) (heading : Heading) → headingOf line ≡ right heading → opened (heading .chambers) (heading .run) .book ≡ bookFor heading
 heading-opens line heading reads =
     let facts = heading-reads line heading .0 reads in
     opened-fresh (heading .chambers) (heading .run) (facts .2 .least, facts .2 .most, facts .3 .least, facts .3 .most) .1
@@ -51,7 +51,7 @@ first-line-refused line number refused =
 
 -- a first line's book, or its refusal
 abbrev bookOf : Read Heading → Read Book
-bookOf read = read >>= λ heading. right (freshBook (heading .chambers) (heading .run))
+bookOf read = read >>= λ heading. right (bookFor heading)
 
 -- the refusal is the first line's own
 fault-of : (read : Read Heading) (number : ℕ) → bookOf read ≡ wrong number → read ≡ wrong number
@@ -74,7 +74,7 @@ module _ (text : List ℕ) where
   too-long over = rw (lt-leb (length text) longestText over)
 
   -- else the first line decides
-  pub heading-right : length text ≤ longestText → (heading : Heading) → headingOf (lineAt text 0) ≡ right heading → opening text ≡ right (freshBook (heading .chambers) (heading .run))
+  pub heading-right : length text ≤ longestText → (heading : Heading) → headingOf (lineAt text 0) ≡ right heading → opening text ≡ right (bookFor heading)
   unfolding opening
   heading-right within heading reads = rw (le-leb (length text) longestText within, reads)
 
@@ -87,7 +87,7 @@ module _ (text : List ℕ) where
   unfolding opening
   opened-within book begun =
       leb-true (length text) longestText
-      (passed-by (leb (length text) longestText) 9 (headingOf (lineAt text 0) >>= λ heading. right (freshBook (heading .chambers) (heading .run))) (right book)
+      (passed-by (leb (length text) longestText) 9 (headingOf (lineAt text 0) >>= λ heading. right (bookFor heading)) (right book)
       never-right begun .0)
 
   -- the book that a list begins with has counted nothing
@@ -95,11 +95,11 @@ module _ (text : List ℕ) where
   unfolding opening
   opened-fresh-book book begun =
       fresh (headingOf (lineAt text 0))
-      (passed-by (leb (length text) longestText) 9 (headingOf (lineAt text 0) >>= λ heading. right (freshBook (heading .chambers) (heading .run))) (right book)
+      (passed-by (leb (length text) longestText) 9 (headingOf (lineAt text 0) >>= λ heading. right (bookFor heading)) (right book)
       never-right begun .1)
     where
       fresh :
-          (read : Read Heading) → _≡_ {A = Read Book} (read >>= λ heading. right (freshBook (heading .chambers) (heading .run))) (right book)
+          (read : Read Heading) → _≡_ {A = Read Book} (read >>= λ heading. right (bookFor heading)) (right book)
           → (book .taken ≡ 0) × (book .kept ≡ 0)
       fresh (wrong number) same = absurd (never-right same)
       fresh (right heading) same = (sym (ap (λ made. made .taken) (same-right same)), sym (ap (λ made. made .kept) (same-right same)))

@@ -60,5 +60,6 @@ next-single text progress one other p q =
     let answers : one .answer ≡ other .answer =
     single-answer told answer-told (told (answerOf (decision (progress .book) (orderOf (lineAt text (progress .at)))))) (one .answer) (other .answer) (p .said)
     (q .said) in
+    let orders : one .order ≡ other .order = p .read ∙ sym (q .read) in
     let places : one .progress ≡ other .progress = p .next ∙ sym (q .next) in
-    λ i. record { answer = answers i; progress = places i }
+    λ i. record { order = orders i; answer = answers i; progress = places i }

@@ -10,6 +10,7 @@ use Rattle.ground.specs.Limits.{longestText}
 use Rattle.texts.specs.Lines.{linesOf, lineAt, pastLine}
 use Rattle.lines.specs.Reading.{headingOf, orderOf}
 use Rattle.planlines.specs.Writing.{planText}
+use Rattle.lines.specs.declared.Heading.{Heading}
 use Rattle.lines.specs.declared.Order.{Order}
 use Rattle.book.specs.Soundness.{freshBook}
 use Rattle.book.specs.Taking.{decided, nextBook, told, answerOf}
@@ -21,12 +22,16 @@ use Rattle.orders.specs.declared.Progress.{Progress}
 use Rattle.orders.specs.declared.Begun.{Begun}
 use Rattle.orders.specs.declared.Step.{Step}
 
+-- the book that a first line opens: "A fresh book has every chamber free from hour 0"
+abbrev pub bookFor : Heading → Book
+bookFor heading = freshBook (heading .chambers) (heading .run)
+
 -- a list begins: 9 for "longer than 65,536 bytes", then what is wrong with its first line, else a fresh book; an empty text has an empty first line, which is refused by 1
 unfoldable pub opening : List ℕ → Read Book
 opening text = do
   check (leb (length text) longestText) 9
   heading ← headingOf (lineAt text 0)
-  right (freshBook (heading .chambers) (heading .run))
+  right (bookFor heading)
 
 -- "Each further line is an order"
 unfoldable pub orderLines : List ℕ → List (List ℕ)
@@ -120,7 +125,13 @@ progressTo text progress book = record { at = pastLine text (progress .at); line
 abbrev pub progressPast : List ℕ → Progress → Progress
 progressPast text progress = progressTo text progress (bookPast (progress .book) (orderOf (lineAt text (progress .at))))
 
--- the answer to the line at a place, and the progress past it
+-- the order that a line reads as; zeros where it does not read
+abbrev pub orderIn : Read Order → Order
+orderIn (wrong number) = record { grower = 0; ready = 0; due = 0 }
+orderIn (right order) = order
+
+-- the order at a place, its answer, and the progress past it
 pub record Stepped (text : List ℕ) (progress : Progress) (step : Step) : Type 0 where
+  pub read : step .order ≡ orderIn (orderOf (lineAt text (progress .at)))
   pub said : told (step .answer) ≡ told (answerOf (decision (progress .book) (orderOf (lineAt text (progress .at)))))
   pub next : step .progress ≡ progressPast text progress

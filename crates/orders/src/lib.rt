@@ -1,13 +1,12 @@
 // The answers of a list, line by line: how far its reading has come goes in by value and comes back.
 // Any bytes and any progress may come. Assumes nothing.
 ghost use mathlib.Core.Path.{_≡_};
-ghost use Rattle.ground.specs.Refusal.{right};
+ghost use Rattle.ground.specs.Refusal.{wrong, right};
 ghost use Rattle.texts.specs.Lines.{lineAt};
 ghost use Rattle.lines.specs.Reading.{headingOf};
-ghost use Rattle.book.specs.Soundness.{freshBook};
 ghost use Rattle.book.specs.Taking.{told, answerOf};
 ghost use Rattle.book.specs.declared.Answer.the-variants as Answer;
-ghost use Rattle.orders.specs.Answers.{opening, decision, bookPast, lineAfter, notBegun, begunWith, begunBy, Stepped};
+ghost use Rattle.orders.specs.Answers.{bookFor, opening, decision, bookPast, lineAfter, notBegun, begunWith, begunBy, orderIn, Stepped};
 use book::Answer;
 use book::Book;
 use ground::LONGEST_TEXT;
@@ -36,8 +35,9 @@ pub struct Begun {
     pub progress: Progress,
 }
 
-// The answer to a line, and the progress past it.
+// The order that a line reads as, with zeros where it does not read, its answer, and the progress past it.
 pub struct Step {
+    pub order: Order,
     pub answer: Answer,
     pub progress: Progress,
 }
@@ -65,7 +65,7 @@ fn not_begun(line: u32, number: u32) -> Begun
 // A list with this first line: its orders start at line 2, with a fresh book.
 fn begun_with(text: &[u8], heading: Heading) -> Begun
     requires { ⌜ headingOf (lineAt (now text) 0) ≡ right heading ⌝ }
-    ensures { λ r. ⌜ r ≡ begunWith (now (text .entry)) (freshBook (heading .chambers) (heading .run)) ⌝ }
+    ensures { λ r. ⌜ r ≡ begunWith (now (text .entry)) (bookFor heading) ⌝ }
 {
     let opened = Book::open(heading.chambers, heading.run);
     let book = opened.book;
@@ -106,7 +106,7 @@ fn past(end: usize, progress: Progress, book: Book) -> Progress
 
 // A line that reads as an order: the book takes it.
 fn booked(end: usize, progress: Progress, order: Order) -> Step
-    ensures { λ r. ⌜ (told (r .answer) ≡ told (answerOf (decision (progress .book) (right order))))
+    ensures { λ r. ⌜ (r .order ≡ order) × (told (r .answer) ≡ told (answerOf (decision (progress .book) (right order))))
         × (r .progress ≡ record { at = end; line = lineAfter (progress .line); book = bookPast (progress .book) (right order) }) ⌝ }
 {
     let book = progress.book;
@@ -114,6 +114,7 @@ fn booked(end: usize, progress: Progress, order: Order) -> Step
     let answer = taken.answer;
     let next = taken.book;
     Step {
+        order,
         answer,
         progress: past(end, progress, next),
     }
@@ -121,15 +122,24 @@ fn booked(end: usize, progress: Progress, order: Order) -> Step
 
 // A refused line: it is counted, and the book is as it was.
 fn passed(end: usize, progress: Progress, number: u32) -> Step
-    ensures { λ r. ⌜ (told (r .answer) ≡ told (Answer.Refused number)) × (r .progress ≡ record { at = end; line = lineAfter (progress .line); book = progress .book }) ⌝ }
+    ensures { λ r. ⌜ (r .order ≡ orderIn (wrong number)) × (told (r .answer) ≡ told (Answer.Refused number)) × (r .progress ≡ record { at = end; line = lineAfter (progress .line); book = progress .book }) ⌝ }
 {
     let book = progress.book;
     let answer = Answer::Refused(number);
     let progress = past(end, progress, book);
-    Step { answer, progress }
+    let order = Order {
+        grower: 0,
+        ready: 0,
+        due: 0,
+    };
+    Step {
+        order,
+        answer,
+        progress,
+    }
 }
 
-// The answer to the line at the place of a progress, and the progress past it; past the end the line is empty, which is refused by 1.
+// The order on the line at the place of a progress, its answer, and the progress past it; past the end the line is empty, which is refused by 1.
 pub fn next(text: &[u8], progress: Progress) -> Step
     ensures { λ r. ⌜ Stepped (now (text .entry)) progress r ⌝ }
 {

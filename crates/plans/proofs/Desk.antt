@@ -12,12 +12,11 @@ use Rattle.texts.specs.Lines.{lineAt}
 use Rattle.lines.specs.Reading.{headingOf, orderOf}
 use Rattle.lines.specs.declared.Heading.{Heading}
 use Rattle.lines.specs.declared.Order.{Order}
-use Rattle.book.specs.Soundness.{freshBook}
+use Rattle.orders.specs.Answers.{bookFor, opening, orderLines, answersFrom, decision, bookPast, refusalsIn, refusals}
 use Rattle.book.specs.Taking.{decided, nextBook, answerOf}
 use Rattle.book.specs.declared.Book.{Book}
 use Rattle.choice.specs.declared.Choice.{Choice}
 use Rattle.choice.specs.declared.Choice.the-variants.{Nothing, Chamber}
-use Rattle.orders.specs.Answers.{opening, orderLines, answersFrom, decision, bookPast, refusalsIn, refusals}
 use Rattle.orders.specs.Answers as desk
 use Rattle.orders.proofs.Beginning.{heading-right, heading-wrong, opened-within}
 use Rattle.plans.specs.Judging.{ListKnown, noteOrder, noOrders}
@@ -113,7 +112,7 @@ reaches-unrefused known (line ∷ lines) last reached =
 -- a list that begins has a first line that reads, and its book is fresh
 begun-headed :
     (list : List ℕ) (book : Book) → opening list ≡ right book
-    → (heading : Heading) × (headingOf (lineAt list 0) ≡ right heading) × (book ≡ freshBook (heading .chambers) (heading .run))
+    → (heading : Heading) × (headingOf (lineAt list 0) ≡ right heading) × (book ≡ bookFor heading)
 begun-headed list book begun = go (headingOf (lineAt list 0)) refl
   where
     fits : length list ≤ longestText
@@ -121,7 +120,7 @@ begun-headed list book begun = go (headingOf (lineAt list 0)) refl
 
     go :
         (read : Read Heading) → headingOf (lineAt list 0) ≡ read
-        → (heading : Heading) × (headingOf (lineAt list 0) ≡ right heading) × (book ≡ freshBook (heading .chambers) (heading .run))
+        → (heading : Heading) × (headingOf (lineAt list 0) ≡ right heading) × (book ≡ bookFor heading)
     go (wrong number) read = absurd (never-right (sym (heading-wrong list fits number read) ∙ begun))
     go (right heading) read = (heading, read, same-right (sym begun ∙ heading-right list fits heading read))
 
@@ -129,7 +128,7 @@ begun-headed list book begun = go (headingOf (lineAt list 0)) refl
 pub clean-as-the-desk :
     (list : List ℕ) (book : Book)
     → desk.CleanList list book
-    ↔ ((heading : Heading) × (orders : List Order) × CleanList list heading orders × (book ≡ freshBook (heading .chambers) (heading .run)))
+    ↔ ((heading : Heading) × (orders : List Order) × CleanList list heading orders × (book ≡ bookFor heading))
 clean-as-the-desk list book = (
   λ clean.
       let begun = begun-headed list book (clean .begun) in

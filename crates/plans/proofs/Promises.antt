@@ -14,7 +14,7 @@ use Rattle.texts.specs.Lines.{linesOf}
 use Rattle.lines.specs.declared.Heading.{Heading}
 use Rattle.lines.specs.declared.Order.{Order}
 use Rattle.lines.specs.declared.Load.{Load}
-use Rattle.book.specs.Soundness.{freshBook}
+use Rattle.orders.specs.Answers.{bookFor}
 use Rattle.book.specs.declared.Book.{Book}
 use Rattle.orders.specs.Answers as desk
 use Rattle.plans.specs.Judging.{judged, asJudged, shown}
@@ -68,7 +68,7 @@ right-before-fault = front.right-before-fault
 pub clean-as-the-desk :
     (list : List ℕ) (book : Book)
     → desk.CleanList list book
-    ↔ ((heading : Heading) × (orders : List Order) × CleanList list heading orders × (book ≡ freshBook (heading .chambers) (heading .run)))
+    ↔ ((heading : Heading) × (orders : List Order) × CleanList list heading orders × (book ≡ bookFor heading))
 clean-as-the-desk = same.clean-as-the-desk
 
 -- 1b: 9 in the list exactly when it is longer than 65,536 bytes, with line number 0 and the empty front

@@ -10,11 +10,10 @@ use Rattle.texts.specs.Lines.{linesOf, lineAt, pastLine, partOf}
 use Rattle.lines.specs.Reading.{headingOf, orderOf, loadOf}
 use Rattle.lines.specs.declared.Heading.{Heading}
 use Rattle.lines.specs.declared.Load.{Load}
-use Rattle.book.specs.Soundness.{freshBook}
+use Rattle.orders.specs.Answers.{bookFor, orderLines}
 use Rattle.book.specs.Taking.{hold, decided, nextBook}
 use Rattle.book.specs.declared.Book.{Book}
 use Rattle.loads.specs.Checks.{loadAsked, overlap}
-use Rattle.orders.specs.Answers.{orderLines}
 use Rattle.plans.specs.declared.Fault.{Fault}
 use Rattle.plans.specs.declared.Judgement.{Judgement}
 use Rattle.plans.specs.declared.Judgement.the-variants as judgement
@@ -75,7 +74,7 @@ unfoldable pub noteLoad : Heading → List ℕ → List ℕ → PlanKnown → Li
 noteLoad heading readies dues known line = do
   load ← loadOf (heading .chambers) line
   loadChecked (heading .run) readies dues (known .orders) load
-  check (not (overlapsAny (hold (freshBook (heading .chambers) (heading .run))) (load .chamber) (load .start) (known .chambers) (known .starts))) 15
+  check (not (overlapsAny (hold (bookFor heading)) (load .chamber) (load .start) (known .chambers) (known .starts))) 15
   right (record {
     orders = known .orders ++ load .order ∷ [];
     chambers = known .chambers ++ load .chamber ∷ [];
@@ -87,7 +86,7 @@ abbrev pub noLoads : PlanKnown
 noLoads = record { orders = []; chambers = []; starts = [] }
 
 abbrev pub noOrders : Heading → ListKnown
-noOrders heading = record { book = freshBook (heading .chambers) (heading .run); readies = []; dues = [] }
+noOrders heading = record { book = bookFor heading; readies = []; dues = [] }
 
 -- the orders of a list with this first line: they start on line 2
 unfoldable pub listJudged : List ℕ → Heading → Or Fault ListKnown

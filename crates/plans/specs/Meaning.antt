@@ -14,9 +14,8 @@ use Rattle.lines.specs.Meaning.{HeadingFault, OrderFault, LoadFault}
 use Rattle.lines.specs.declared.Heading.{Heading}
 use Rattle.lines.specs.declared.Order.{Order}
 use Rattle.lines.specs.declared.Load.{Load}
-use Rattle.book.specs.Soundness.{freshBook}
+use Rattle.orders.specs.Answers.{bookFor, orderLines}
 use Rattle.book.specs.Taking.{hold}
-use Rattle.orders.specs.Answers.{orderLines}
 use Rattle.plans.specs.declared.Fault.{Fault}
 
 -- it holds of each of several things, wherever it stands among them
@@ -65,7 +64,7 @@ pub record InTime (run : ℕ) (orders : List Order) (load : Load) : Type 0 where
 
 -- how long a load takes its chamber
 abbrev pub holdOf : Heading → ℕ
-holdOf heading = hold (freshBook (heading .chambers) (heading .run))
+holdOf heading = hold (bookFor heading)
 
 -- "Two loads overlap when each starts before the other ends", in one chamber
 pub record Overlap (held : ℕ) (one other : Load) : Type 0 where

@@ -10,6 +10,9 @@ sub-at c = search needs
 cast-at : tie.Need-cast-at
 cast-at c = search needs
 
+hold-requires : tie.Need-hold-requires
+hold-requires c κs = search needs
+
 add-free : tie.Need-add-free
 add-free c = search needs
 
@@ -26,7 +29,7 @@ add-kept : tie.Need-add-kept
 add-kept c = search needs
 
 returns : tie.Need-returns
-returns c = record { said = refl; next = refl }
+returns c = record { said = refl; next = rw (c .before .before .before .hold .ensures) }
 
 pub accepted-spec : {M : Type 1} → statement M
-accepted-spec = tie.close (tie.spec sub-at cast-at add-free mul-free array-write-free add-taken add-kept returns)
+accepted-spec = tie.close (tie.spec sub-at cast-at hold-requires add-free mul-free array-write-free add-taken add-kept returns)

@@ -34,8 +34,9 @@ returns c =
     let line = k .before .line-at .ensures in
     let reads = c .before .before .order .given .1 in
     record {
-      said = rw (← line, ← k .read-order .ensures, reads) (c .booked .ensures .0);
-      next = rw (← past-is _ _, ← line, ← k .read-order .ensures, reads) (c .booked .ensures .1);
+      read = rw (← line, ← k .read-order .ensures, reads) (c .booked .ensures .0);
+      said = rw (← line, ← k .read-order .ensures, reads) (c .booked .ensures .1);
+      next = rw (← past-is _ _, ← line, ← k .read-order .ensures, reads) (c .booked .ensures .2);
     }
 
 returns-2 : tie.Need-returns-2
@@ -44,8 +45,9 @@ returns-2 c =
     let line = k .before .line-at .ensures in
     let reads = c .before .before .number .given .1 in
     record {
-      said = rw (← line, ← k .read-order .ensures, reads) (c .passed .ensures .0);
-      next = rw (← past-is _ _, ← line, ← k .read-order .ensures, reads) (c .passed .ensures .1);
+      read = rw (← line, ← k .read-order .ensures, reads) (c .passed .ensures .0);
+      said = rw (← line, ← k .read-order .ensures, reads) (c .passed .ensures .1);
+      next = rw (← past-is _ _, ← line, ← k .read-order .ensures, reads) (c .passed .ensures .2);
     }
 
 pub next-spec : {M : Type 1} → statement M

@@ -8,7 +8,7 @@ past-requires : tie.Need-past-requires
 past-requires c κs = search needs
 
 returns : tie.Need-returns
-returns c = (refl, c .past .ensures)
+returns c = (refl, refl, c .past .ensures)
 
 pub passed-spec : {M : Type 1} → statement M
 passed-spec = tie.close (tie.spec past-requires returns)
