@@ -1,37 +1,52 @@
 -- The twelve cases that the paper marks with a P, as one list, each with the paper's answer, over the definitions that the contracts cite. Assumes nothing.
 use Prim.Native.Nat.{ℕ}
 use mathlib.Core.Path.{_≡_}
-use mathlib.Core.List.{List, [], _∷_}
-use Rattle.ground.specs.Refusal.{Read, wrong, right}
+use mathlib.Core.List.{List, [], _∷_, map}
+use Rattle.ground.specs.Refusal.{Or, Read, wrong, right}
 use Rattle.ground.specs.Text.{bytes}
-use Rattle.hours.specs.Classes.{comma}
 use Rattle.hours.specs.Reading.{hourOf}
-use Rattle.book.specs.Taking.{decided}
+use Rattle.book.specs.Soundness.{opened}
+use Rattle.book.specs.Taking.{decided, answerOf}
 use Rattle.book.specs.declared.Book.{Book}
-use Rattle.choice.specs.declared.Choice.{Choice}
-use Rattle.choice.specs.declared.Choice.the-variants.{Nothing, Chamber}
+use Rattle.book.specs.declared.Answer.{Answer}
+use Rattle.book.specs.declared.Answer.the-variants.{Yes, No}
 use Rattle.plans.specs.Judging.{judged}
+use Rattle.plans.specs.declared.Fault.{Fault}
 use Rattle.replies.specs.Replies.{replyOf}
 use Rattle.limit.specs.Example.{paperList, paperPlan}
 
--- a case: a field and the hour that it is, or its refusal; a book, an order's ready and due and the choice; a list and the desk's whole reply; a list, a plan and how many loads it is right with
+-- a case: a field and the hour that it is, or its refusal; a book, an order's ready and due and the answer; a list and the desk's whole reply;
+-- a list, a plan and how many loads it is right with, or its fault
 pub data Case : Type 0 where
   hour : List ℕ → Read ℕ → Case
-  order : Book → ℕ → ℕ → Choice → Case
+  order : Book → ℕ → ℕ → Answer → Case
   reply : List ℕ → List ℕ → Case
-  plan : List ℕ → List ℕ → ℕ → Case
+  judgement : List ℕ → List ℕ → Or Fault ℕ → Case
 
--- it holds
-abbrev pub Holds : Case → Type 0
-Holds (hour field answer) = hourOf comma field ≡ answer
-Holds (order book ready due answer) = decided book ready due ≡ right answer
-Holds (reply list text) = replyOf list ≡ text
-Holds (plan list loads count) = judged list loads ≡ right count
+-- what a case comes to
+pub data Outcome : Type 0 where
+  read : Read ℕ → Outcome
+  answered : Answer → Outcome
+  replied : List ℕ → Outcome
+  judged-as : Or Fault ℕ → Outcome
 
--- all of several hold
-unfoldable pub AllHold : List Case → Type 0
-AllHold [] = Unit {0}
-AllHold (case ∷ cases) = Holds case × AllHold cases
+-- what it is said to come to
+abbrev pub said : Case → Outcome
+said (hour field answer) = read answer
+said (order book ready due answer) = answered answer
+said (reply list text) = replied text
+said (judgement list plan answer) = judged-as answer
+
+-- what it does come to, by the definitions that the contracts cite
+abbrev pub done : Case → Outcome
+done (hour field answer) = read (hourOf 44 field)
+done (order book ready due answer) = answered (answerOf (decided book ready due))
+done (reply list text) = replied (replyOf list)
+done (judgement list plan answer) = judged-as (judged list plan)
+
+-- all of several hold: what they come to is what they are said to
+abbrev pub AllHold : List Case → Type 0
+AllHold cases = map done cases ≡ map said cases
 
 -- "Two chambers, run 300", with these free hours
 abbrev pub twoChambers : ℕ → ℕ → Book
@@ -51,11 +66,11 @@ markedCases =
     ∷ hour (bytes "9999,99") (right 999999)
     ∷ hour (bytes "18.5") (wrong 3)
     ∷ hour (bytes "18,500") (wrong 3)
-    ∷ order (twoChambers 0 0) 0 300 (Chamber 1 0)
-    ∷ order (twoChambers 0 0) 0 299 Nothing
-    ∷ order (twoChambers 300 0) 100 600 (Chamber 1 300)
-    ∷ order (twoChambers 300 0) 100 599 (Chamber 2 100)
-    ∷ order (twoChambers 300 400) 700 1000 (Chamber 1 700)
+    ∷ order (opened 2 300 .book) 0 300 (Yes 1 0)
+    ∷ order (opened 2 300 .book) 0 299 No
+    ∷ order (twoChambers 300 0) 100 600 (Yes 1 300)
+    ∷ order (twoChambers 300 0) 100 599 (Yes 2 100)
+    ∷ order (twoChambers 300 400) 700 1000 (Yes 1 700)
     ∷ reply paperList paperReply
-    ∷ plan paperList paperPlan 9
+    ∷ judgement paperList paperPlan (right 9)
     ∷ []
