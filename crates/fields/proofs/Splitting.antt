@@ -9,11 +9,10 @@ use lib.Dec.{eqb}
 use native.Mathlib.Numerals.{add-one}
 use native.Mathlib.Omega.{arith}
 use borrow.Author.Tests.{eqb-true, eqb-false, eq-eqb}
-use Rattle.ground.specs.Digits.{isDigit, digitOf}
+use Rattle.classes.specs.Classes.{comma, isDigit, digitOf, classOf}
 use Rattle.ground.proofs.Tests.{by-test, never-both}
-use Rattle.hours.specs.Classes.{comma, classOf}
-use Rattle.hours.specs.declared.Class.{Class}
-use Rattle.hours.specs.declared.Class.the-variants.{Digit, Mark, Tab, LineEnd, Foreign}
+use Rattle.classes.specs.declared.Class.{Class}
+use Rattle.classes.specs.declared.Class.the-variants.{Digit, Mark, Tab, LineEnd, Foreign}
 use Rattle.texts.specs.Lines.{lineEnd, before}
 use Rattle.fields.specs.Fields.{tab, isNone, isEnded, fieldsOf, field, behind}
 use Rattle.fields.specs.Steps.{endsField, endsLine, tabsIn}

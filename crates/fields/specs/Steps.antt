@@ -1,8 +1,8 @@
 -- What the private steps of the field reader come to. The public definitions do not rest on it. Assumes nothing.
 use Prim.Native.Nat.{ℕ}
 use mathlib.Core.Bool.{Bool, true, false}
-use Rattle.hours.specs.declared.Class.{Class}
-use Rattle.hours.specs.declared.Class.the-variants.{Digit, Mark, Tab, LineEnd, Foreign}
+use Rattle.classes.specs.declared.Class.{Class}
+use Rattle.classes.specs.declared.Class.the-variants.{Digit, Mark, Tab, LineEnd, Foreign}
 
 -- what a byte's class means to a line: a tab or a line end ends a field, a line end ends the line, and a tab counts
 abbrev pub endsField : Class → Bool

@@ -6,7 +6,7 @@ ghost use lib.ListN.{length};
 ghost use lib.Dec.{eqb};
 ghost use Rattle.fields.specs.Fields.{field, behind, fieldCount, sameBytes};
 ghost use Rattle.fields.specs.Steps.{endsField, endsLine, tabsIn};
-use hours::Class;
+use classes::Class;
 
 // Whether a byte of this class ends a field.
 fn ends_field(class: Class) -> bool
@@ -54,7 +54,7 @@ pub fn field_count(line: &[u8]) -> usize
     let mut count: usize = 1;
     let mut at: usize = 0;
     while at < line.len() {
-        let class = hours::class_of(line[at]);
+        let class = classes::class_of(line[at]);
         at += 1;
         if ends_line(class) {
             return alone(count, at, line.len());
@@ -77,7 +77,7 @@ fn field_end(line: &[u8]) -> usize
 {
     let mut at: usize = 0;
     while at < line.len() {
-        if ends_field(hours::class_of(line[at])) {
+        if ends_field(classes::class_of(line[at])) {
             return at;
         }
         at += 1;

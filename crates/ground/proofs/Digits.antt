@@ -1,38 +1,42 @@
--- Laws of decimal digits: what a spelled number is worth, that it is spelled plainly, and how its digits are counted. Assumes nothing.
-use Prim.Native.Nat.{ℕ, zero, suc, _+_, _-_, _*_, _/_, _^_, _≤_, _<_}
+-- Laws of decimal digits: a spelled number is the only word of its digits; what words are worth, how digits are counted. Assumes nothing.
+use Prim.Native.Nat.{ℕ, zero, suc, _+_, _-_, _*_, _/_, _%_, _^_, _≤_, _<_}
 use mathlib.Core.Path.{_≡_, refl, sym, ap, _∙_}
-use mathlib.Core.Bool.{true}
 use mathlib.Core.List.{List, [], _∷_, _++_, append-nil, append-assoc}
+use mathlib.Core.Logic.{_↔_}
 use lib.ListN.{length, getD, drop, set, length-append, List·getD-append}
 use lib.Seq.{drop-length, drop-cons, lt-length-set, getD-set-same, drop-set-lt}
 use lib.Dec.{ltb}
-use native.Mathlib.Nat.{pow-suc}
+use native.Mathlib.Nat.{pow-suc, pow-le-pow-right, mod-add-div', mod-lt, mod-eq-of-lt, add-mul-mod-self-right}
 use native.Mathlib.Omega.{arith}
 use borrow.Author.Tests.{ltb-true, ltb-false, lt-ltb, le-ltb}
 use Rattle.ground.specs.Limits.{lastPlain}
-use Rattle.ground.specs.Digits.{isDigit, digitOf, allDigits, valueAfter, valueOf, Plain, lastDigit, lastDigits, spelledWithin, spelled}
-use Rattle.ground.proofs.Range.{within-from, within-low, within-high}
-use Rattle.ground.proofs.Tests.{by-test, both, first-of, second-of}
+use Rattle.ground.specs.Spelling.{DigitByte, AllDigits, valueAfter, valueOf, Unpadded, Plain, DigitsOf}
+use Rattle.ground.specs.Digits.{lastDigit, lastDigits, spelledWithin, spelled}
+use Rattle.ground.proofs.Tests.{by-test}
 
--- a digit's byte lies from 48 to 57
-pub digit-from : (byte : ℕ) → 48 ≤ byte → byte ≤ 57 → isDigit byte ≡ true
-digit-from byte low high = within-from 48 57 byte low high
+-- a number's last digit is a digit
+pub last-is-digit : (number : ℕ) → DigitByte (lastDigit number)
+last-is-digit number = (omega arith, omega arith)
 
-pub digit-low : (byte : ℕ) → isDigit byte ≡ true → 48 ≤ byte
-digit-low byte digit = within-low 48 57 byte digit
-
-pub digit-high : (byte : ℕ) → isDigit byte ≡ true → byte ≤ 57
-digit-high byte digit = within-high 48 57 byte digit
-
-pub last-is-digit : (number : ℕ) → isDigit (lastDigit number) ≡ true
-last-is-digit number = digit-from (lastDigit number) (omega arith) (omega arith)
+-- what holds of no bytes, and of a word with a byte more at its end, holds of every word
+word-induction :
+    (Holds : List ℕ → Type 0) → Holds [] → ((word : List ℕ) (byte : ℕ) → Holds word → Holds (word ++ byte ∷ [])) → (word : List ℕ) → Holds word
+word-induction Holds none more word = go [] word none
+  where
+    go : (front rest : List ℕ) → Holds front → Holds (front ++ rest)
+    go front [] held = rw append-nil held
+    go front (byte ∷ rest) held = rw append-assoc at (go (front ++ byte ∷ []) rest (more front byte held))
 
 -- digits one more at the end
-pub all-digits-more : (word : List ℕ) (byte : ℕ) → allDigits word ≡ true → isDigit byte ≡ true → allDigits (word ++ byte ∷ []) ≡ true
-unfolding allDigits
-all-digits-more [] byte all digit = both digit refl
-all-digits-more (first ∷ word) byte all digit =
-    both (first-of (isDigit first) _ all) (all-digits-more word byte (second-of (isDigit first) _ all) digit)
+all-digits-more : (word : List ℕ) (byte : ℕ) → AllDigits word → DigitByte byte → AllDigits (word ++ byte ∷ [])
+unfolding AllDigits
+all-digits-more [] byte all digit = (digit, tt)
+all-digits-more (first ∷ word) byte all digit = (all .0, all-digits-more word byte (all .1) digit)
+
+all-digits-less : (word : List ℕ) (byte : ℕ) → AllDigits (word ++ byte ∷ []) → AllDigits word × DigitByte byte
+unfolding AllDigits
+all-digits-less [] byte all = (tt, all .0)
+all-digits-less (first ∷ word) byte all = let p = all-digits-less word byte (all .1) in ((all .0, p .0), p .1)
 
 value-after-more : (before : ℕ) (word : List ℕ) (byte : ℕ) → valueAfter before (word ++ byte ∷ []) ≡ valueAfter before word * 10 + (byte - 48)
 unfolding valueAfter
@@ -43,7 +47,7 @@ pub value-more : (word : List ℕ) (byte : ℕ) → valueOf (word ++ byte ∷ []
 unfolding valueOf
 value-more word byte = value-after-more 0 word byte
 
-pub length-more : (word : List ℕ) (byte : ℕ) → length (word ++ byte ∷ []) ≡ suc (length word)
+length-more : (word : List ℕ) (byte : ℕ) → length (word ++ byte ∷ []) ≡ suc (length word)
 length-more word byte = simp length-append (omega arith)
 
 -- a number below ten is its one digit, and any other is spelled by what stands before its last digit, and that digit
@@ -68,11 +72,11 @@ within-any (suc one) (suc other) number p q =
     ∙ ap (λ (front : List ℕ). front ++ lastDigit number ∷ []) (within-any one other (number / 10) (omega arith) (omega arith))
     ∙ sym (within-more other number l))
 
-pub spelled-one : (number : ℕ) → number < 10 → spelled number ≡ lastDigit number ∷ []
+spelled-one : (number : ℕ) → number < 10 → spelled number ≡ lastDigit number ∷ []
 unfolding spelled
 spelled-one number small = within-one number number small
 
-pub spelled-more : (number : ℕ) → 10 ≤ number → spelled number ≡ spelled (number / 10) ++ lastDigit number ∷ []
+spelled-more : (number : ℕ) → 10 ≤ number → spelled number ≡ spelled (number / 10) ++ lastDigit number ∷ []
 unfolding spelled
 spelled-more number large =
     within-more number number large
@@ -90,21 +94,6 @@ digit-induction Holds one more number = go (suc number) number (omega arith)
         by-test (ltb number 10) (λ small. one number (ltb-true _ _ small))
         (λ large. let l : 10 ≤ number = ltb-false number 10 large in more number l (go bound (number / 10) (omega arith)))
 
--- a spelled number is worth itself
-pub spelled-worth : (number : ℕ) → valueOf (spelled number) ≡ number
-unfolding valueOf valueAfter
-spelled-worth =
-    digit-induction (λ number. valueOf (spelled number) ≡ number) (λ number small. rw (spelled-one number small) (omega arith))
-    (λ number large before. rw (spelled-more number large) (value-more (spelled (number / 10)) (lastDigit number) ∙ rw before (omega arith)))
-
--- all of it is digits
-pub spelled-digits : (number : ℕ) → allDigits (spelled number) ≡ true
-unfolding allDigits
-spelled-digits =
-    digit-induction (λ number. allDigits (spelled number) ≡ true)
-    (λ number small. rw (spelled-one number small) (both (last-is-digit number) refl))
-    (λ number large before. rw (spelled-more number large) (all-digits-more (spelled (number / 10)) (lastDigit number) before (last-is-digit number)))
-
 -- it has a digit, and one more for each time that the number can be cut by ten
 pub length-one : (number : ℕ) → number < 10 → length (spelled number) ≡ 1
 length-one number small = rw (spelled-one number small)
@@ -112,10 +101,81 @@ length-one number small = rw (spelled-one number small)
 pub length-tenfold : (number : ℕ) → 10 ≤ number → length (spelled number) ≡ suc (length (spelled (number / 10)))
 length-tenfold number large = rw (spelled-more number large, length-more)
 
-pub spelled-some : (number : ℕ) → 1 ≤ length (spelled number)
-spelled-some =
-    digit-induction (λ number. 1 ≤ length (spelled number)) (λ number small. omega (arith, length-one number small))
-    (λ number large before. omega (arith, length-tenfold number large))
+-- a word that starts with 0 only where it is 0 alone, and is worth something, starts with another digit
+not-padded : (word : List ℕ) → Unpadded word → 1 ≤ valueOf word → getD word 0 0 ≡ 48 → ⊥
+unfolding valueOf valueAfter
+not-padded [] unpadded worth zeroed = omega arith
+not-padded (byte ∷ []) unpadded worth zeroed = omega arith
+not-padded (byte ∷ next ∷ rest) unpadded worth zeroed = omega (arith, unpadded zeroed)
+
+-- so it does with one more digit behind it
+padded-never :
+    (word : List ℕ) (byte : ℕ) → 1 ≤ length word → Unpadded word → 1 ≤ valueOf word → getD (word ++ byte ∷ []) 0 0 ≡ 48 → ⊥
+padded-never word byte some unpadded worth zeroed = not-padded word unpadded worth (sym (List·getD-append word (byte ∷ []) 0 0 some) ∙ zeroed)
+
+-- a spelled number is its digits
+spelled-meant : (number : ℕ) → DigitsOf number (spelled number)
+unfolding AllDigits valueOf valueAfter
+spelled-meant =
+    digit-induction (λ number. DigitsOf number (spelled number))
+    (λ number small.
+    rw (spelled-one number small)
+    (record { digits = (last-is-digit number, tt); some = omega arith; unpadded = λ zeroed. refl; worth = omega arith }))
+    (λ number large before.
+    let front = spelled (number / 10) in
+    rw (spelled-more number large)
+    (record {
+      digits = all-digits-more front (lastDigit number) (before .digits) (last-is-digit number);
+      some = omega (arith, length-more front (lastDigit number));
+      unpadded =
+          λ zeroed. absurd (padded-never front (lastDigit number) (before .some) (before .unpadded) (omega (arith, before .worth)) zeroed);
+      worth = omega (arith, value-more front (lastDigit number), before .worth);
+    }))
+
+pub spelled-worth : (number : ℕ) → valueOf (spelled number) ≡ number
+spelled-worth number = spelled-meant number .worth
+
+pub spelled-digits : (number : ℕ) → AllDigits (spelled number)
+spelled-digits number = spelled-meant number .digits
+
+-- a word of digits with no leading zero but for 0 itself is its worth spelled out, with one more digit at its end too
+only-spelled-more :
+    (word : List ℕ) (byte : ℕ) → (AllDigits word → 1 ≤ length word → Unpadded word → word ≡ spelled (valueOf word))
+    → AllDigits (word ++ byte ∷ []) → Unpadded (word ++ byte ∷ [])
+    → word ++ byte ∷ [] ≡ spelled (valueOf (word ++ byte ∷ []))
+unfolding valueOf valueAfter
+only-spelled-more [] byte before all unpadded =
+    let digit = all-digits-less [] byte all .1 in
+    let last : byte ≡ lastDigit (valueOf (byte ∷ [])) = omega arith in
+    ap (λ (b : ℕ). b ∷ []) last ∙ sym (spelled-one (valueOf (byte ∷ [])) (omega arith))
+only-spelled-more (first ∷ rest) byte before all unpadded =
+    let word = first ∷ rest in
+    let p = all-digits-less word byte all in
+    let other : first ≡ 48 → ⊥ = λ zeroed. omega (arith, unpadded zeroed, length-more word byte) in
+    let whole : word ≡ spelled (valueOf word) = before (p .0) (omega arith) (λ zeroed. absurd (other zeroed)) in
+    let worth = valueOf (word ++ byte ∷ []) in
+    let more : worth ≡ valueOf word * 10 + (byte - 48) = value-more word byte in
+    let some : 1 ≤ valueOf word =
+    by-test (ltb 0 (valueOf word)) (λ some. ltb-true _ _ some)
+    (λ none.
+    let worthless : valueOf word ≤ 0 = ltb-false _ _ none in
+    absurd (other (omega (arith, ap (λ (l : List ℕ). getD l 0 0) (whole ∙ spelled-one (valueOf word) (omega arith)))))) in
+    let last : byte ≡ lastDigit worth = omega arith in
+    let rest-worth : valueOf word ≡ worth / 10 = omega arith in
+    ap (λ (b : ℕ). word ++ b ∷ []) last ∙ ap (λ (front : List ℕ). front ++ lastDigit worth ∷ []) (whole ∙ ap spelled rest-worth)
+    ∙ sym (spelled-more worth (omega arith))
+
+only-spelled : (word : List ℕ) → AllDigits word → 1 ≤ length word → Unpadded word → word ≡ spelled (valueOf word)
+only-spelled =
+    word-induction (λ word. AllDigits word → 1 ≤ length word → Unpadded word → word ≡ spelled (valueOf word))
+    (λ all some unpadded. absurd (omega arith)) (λ word byte before all some unpadded. only-spelled-more word byte before all unpadded)
+
+-- a word is a number's digits exactly when it is the number spelled out
+pub spelled-only : (number : ℕ) (word : List ℕ) → (word ≡ spelled number) ↔ DigitsOf number word
+spelled-only number word = (
+  λ same. rw same (spelled-meant number),
+  λ meant. only-spelled word (meant .digits) (meant .some) (meant .unpadded) ∙ ap spelled (meant .worth),
+)
 
 -- a number below a power of ten has at most that many digits
 pub spelled-most : (count number : ℕ) → number < 10 ^ suc count → length (spelled number) ≤ suc count
@@ -130,25 +190,11 @@ spelled-most (suc count) number below =
       spelled-most count (number / 10) (omega (arith, pow-suc 10 (suc count))),
     ))
 
--- a number that is not 0 starts with another digit than 0
-pub spelled-first : (number : ℕ) → 1 ≤ number → 49 ≤ getD (spelled number) 0 0
-spelled-first =
-    digit-induction (λ number. 1 ≤ number → 49 ≤ getD (spelled number) 0 0) (λ number small some. rw (spelled-one number small) (omega arith))
-    (λ number large before some.
-    rw (spelled-more number large, List·getD-append (spelled (number / 10)) _ 0 0 (spelled-some (number / 10))) (before (omega arith)))
-
 -- so a number of up to four digits is spelled plainly
 pub spelled-plain : (number : ℕ) → number ≤ lastPlain → Plain (spelled number)
 spelled-plain number small =
-    record {
-      digits = spelled-digits number;
-      some = spelled-some number;
-      most = spelled-most 3 number (omega arith);
-      unpadded =
-          λ zeroed.
-          by-test (ltb number 10) (λ one. length-one number (ltb-true _ _ one))
-          (λ large. let l : 10 ≤ number = ltb-false number 10 large in absurd (omega (arith, spelled-first number (omega arith))));
-    }
+    let meant = spelled-meant number in
+    record { digits = meant .digits; some = meant .some; most = spelled-most 3 number (omega arith); unpadded = meant .unpadded }
 
 -- as many of the last digits as the number has are the number spelled out
 pub last-digits-spelled : (number : ℕ) → lastDigits (length (spelled number)) number ≡ spelled number
@@ -157,6 +203,31 @@ last-digits-spelled =
     digit-induction (λ number. lastDigits (length (spelled number)) number ≡ spelled number)
     (λ number small. rw (spelled-one number small))
     (λ number large before. rw (length-tenfold number large, before, spelled-more number large))
+
+-- what they are worth is what is left of the number over that power of ten
+below-tenfold : (power number : ℕ) → 0 < power → number / 10 % power * 10 + number % 10 ≡ number % (power * 10)
+below-tenfold power number some =
+    let left : number / 10 % power < power = mod-lt (number / 10) some in
+    let cut : number ≡ number / 10 % power * 10 + number % 10 + number / 10 / power * (power * 10) =
+    omega (arith, mod-add-div' (number / 10) power) in
+    sym (ap (λ (n : ℕ). n % (power * 10)) cut ∙ add-mul-mod-self-right _ _ _ ∙ mod-eq-of-lt (omega arith))
+
+tens-some : (count : ℕ) → 0 < 10 ^ count
+tens-some zero = omega arith
+tens-some (suc count) = omega (arith, tens-some count, pow-suc 10 count)
+
+pub last-digits-worth : (count number : ℕ) → valueOf (lastDigits count number) ≡ number % 10 ^ count
+unfolding lastDigits valueOf valueAfter
+last-digits-worth zero number = omega arith
+last-digits-worth (suc count) number =
+    value-more (lastDigits count (number / 10)) (lastDigit number)
+    ∙ rw (last-digits-worth count (number / 10), pow-suc 10 count) (omega (arith, below-tenfold (10 ^ count) number (tens-some count)))
+
+pub last-digits-all : (count number : ℕ) → AllDigits (lastDigits count number)
+unfolding lastDigits AllDigits
+last-digits-all zero number = tt
+last-digits-all (suc count) number =
+    all-digits-more (lastDigits count (number / 10)) (lastDigit number) (last-digits-all count (number / 10)) (last-is-digit number)
 
 pub length-last-digits : (count number : ℕ) → length (lastDigits count number) ≡ count
 unfolding lastDigits
@@ -192,67 +263,36 @@ fill-end zero left buffer none = refl
 fill-end (suc at) left buffer none = absurd (omega arith)
 
 -- a digit alone is plain
-pub plain-one : (byte : ℕ) → isDigit byte ≡ true → Plain (byte ∷ [])
-unfolding allDigits
-plain-one byte digit = record { digits = both digit refl; some = omega arith; most = omega arith; unpadded = λ zeroed. refl }
+pub plain-one : (byte : ℕ) → DigitByte byte → Plain (byte ∷ [])
+unfolding AllDigits
+plain-one byte digit = record { digits = (digit, tt); some = omega arith; most = omega arith; unpadded = λ zeroed. refl }
 
--- a word of digits that is plain and worth something starts with another digit than 0
-first-not-zero : (word : List ℕ) → Plain word → 1 ≤ valueOf word → getD word 0 0 ≡ 48 → ⊥
-unfolding valueOf valueAfter
-first-not-zero [] plain worth zeroed = omega arith
-first-not-zero (byte ∷ []) plain worth zeroed = omega arith
-first-not-zero (byte ∷ next ∷ rest) plain worth zeroed = omega (arith, plain .unpadded zeroed)
-
--- a plain word that is worth less than a thousand has at most three digits
-below-thousand : (word : List ℕ) → Plain word → 1 ≤ valueOf word → valueOf word ≤ 999 → length word ≤ 3
-unfolding valueOf valueAfter allDigits
-below-thousand [] plain worth small = omega arith
-below-thousand (a ∷ []) plain worth small = omega arith
-below-thousand (a ∷ b ∷ []) plain worth small = omega arith
-below-thousand (a ∷ b ∷ c ∷ []) plain worth small = omega arith
-below-thousand (a ∷ b ∷ c ∷ d ∷ []) plain worth small =
-    let low : 48 ≤ a = digit-low a (first-of (isDigit a) _ (plain .digits)) in
-    let other : a ≡ 48 → ⊥ = λ zeroed. omega (arith, plain .unpadded zeroed) in
-    absurd (omega arith)
-below-thousand (a ∷ b ∷ c ∷ d ∷ e ∷ rest) plain worth small = absurd (omega (arith, plain .most))
-
--- such a word takes one more digit and stays plain
-pub plain-more : (word : List ℕ) (byte : ℕ) → Plain word → 1 ≤ valueOf word → valueOf word ≤ 999 → isDigit byte ≡ true → Plain (word ++ byte ∷ [])
+-- a plain word that is worth from 1 to 999 takes one more digit and stays plain: it has at most three
+pub plain-more : (word : List ℕ) (byte : ℕ) → Plain word → 1 ≤ valueOf word → valueOf word ≤ 999 → DigitByte byte → Plain (word ++ byte ∷ [])
 plain-more word byte plain worth small digit =
+    let short : length (spelled (valueOf word)) ≤ 3 = spelled-most 2 (valueOf word) (omega arith) in
     record {
       digits = all-digits-more word byte (plain .digits) digit;
       some = omega (arith, length-more word byte);
-      most = omega (arith, length-more word byte, below-thousand word plain worth small);
-      unpadded =
-          λ zeroed. absurd (first-not-zero word plain worth (sym (List·getD-append word (byte ∷ []) 0 0 (plain .some)) ∙ zeroed));
+      most = omega (arith, length-more word byte, ap length (only-spelled word (plain .digits) (plain .some) (plain .unpadded)));
+      unpadded = λ zeroed. absurd (padded-never word byte (plain .some) (plain .unpadded) worth zeroed);
     }
 
--- what a number becomes with so many nines behind it
-nines : ℕ → ℕ → ℕ
-nines before zero = before
-nines before (suc count) = nines (before * 10 + 9) count
-
-value-at-most :
-    (before high : ℕ) (word : List ℕ) → before ≤ high → allDigits word ≡ true → valueAfter before word ≤ nines high (length word)
-unfolding valueAfter allDigits nines
-value-at-most before high [] below all = below
-value-at-most before high (byte ∷ word) below all =
-    value-at-most (before * 10 + digitOf byte) (high * 10 + 9) word (omega (arith, digit-high byte (first-of (isDigit byte) (allDigits word) all)))
-    (second-of (isDigit byte) (allDigits word) all)
-
-four-nines : (count : ℕ) → count ≤ 4 → nines 0 count ≤ lastPlain
-unfolding nines
-four-nines zero few = omega arith
-four-nines (suc zero) few = omega arith
-four-nines (suc (suc zero)) few = omega arith
-four-nines (suc (suc (suc zero))) few = omega arith
-four-nines (suc (suc (suc (suc zero)))) few = omega arith
-four-nines (suc (suc (suc (suc (suc count))))) few = absurd (omega arith)
+-- so many digits are worth less than that power of ten
+value-below : (word : List ℕ) → AllDigits word → valueOf word < 10 ^ length word
+unfolding valueOf valueAfter
+value-below =
+    word-induction (λ word. AllDigits word → valueOf word < 10 ^ length word) (λ all. omega arith)
+    (λ word byte below all.
+    let p = all-digits-less word byte all in
+    let b : valueOf word < 10 ^ length word = below (p .0) in
+    rw length-more (omega (arith, value-more word byte, pow-suc 10 (length word))))
 
 -- a plain word is worth at most four nines
 pub plain-worth : (word : List ℕ) → Plain word → valueOf word ≤ lastPlain
-unfolding valueOf
-plain-worth word plain = omega (arith, value-at-most 0 0 word (omega arith) (plain .digits), four-nines (length word) (plain .most))
+plain-worth word plain =
+    let most : 10 ^ length word ≤ 10 ^ 4 = pow-le-pow-right (omega arith) (plain .most) in
+    omega (arith, value-below word (plain .digits))
 
 -- a number has at most as many digits as it counts, and one
 pub spelled-short : (number : ℕ) → length (spelled number) ≤ suc number

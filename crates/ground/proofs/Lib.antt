@@ -1,4 +1,4 @@
--- The laws of the shared definitions, each file for one file of specs/.
+-- The laws of the shared definitions, each file for one file of specs/, and what the room promises.
 pub mod Tests
 pub mod Range
 pub mod Refusal
@@ -6,3 +6,4 @@ pub mod Digits
 pub mod Buffer
 pub mod Writing
 pub mod Outcome
+pub mod Promises

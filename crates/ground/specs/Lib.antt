@@ -2,6 +2,7 @@
 pub mod Refusal
 pub mod Range
 pub mod Limits
+pub mod Spelling
 pub mod Digits
 pub mod Buffer
 pub mod Outcome

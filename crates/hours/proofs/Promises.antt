@@ -1,32 +1,36 @@
--- What this room promises, about the very definitions that its contracts cite, at the comma. Each is a line over a law of this folder. Assumes nothing.
+-- What this room promises, about what its functions answer and about the definitions that their contracts cite, at the comma, 44.
+-- Each is a line over a law of this folder. Assumes nothing.
 use Prim.Native.Nat.{ℕ, _≤_}
 use mathlib.Core.Path.{_≡_, refl, sym, ap}
 use mathlib.Core.List.{List}
-use mathlib.Core.Logic.{_↔_}
+use mathlib.Core.Logic.{_↔_, Iff·trans}
+use contract.Lifetimes.{Lfts}
 use Rattle.ground.specs.Refusal.{wrong, right}
-use Rattle.ground.specs.Limits.{lastHour}
-use Rattle.ground.specs.Digits.{Plain, valueOf}
+use Rattle.ground.specs.Spelling.{Plain, valueOf}
 use Rattle.ground.specs.Outcome.{Injective, Single}
 use Rattle.ground.proofs.Refusal.{never-right, same-right, same-wrong}
-use Rattle.ground.proofs.Outcome.{single-answer, single-value}
+use Rattle.ground.proofs.Outcome.{answered-exactly}
 use Rattle.hours.specs.Spelling.{Spells}
-use Rattle.hours.specs.Classes.{comma, classOf}
 use Rattle.hours.specs.Reading.{hourOf, asHour, plainOf, asPlain}
+use Rattle.hours.specs.declared.HourRead.{HourRead}
 use Rattle.hours.specs.declared.HourRead.the-variants.{Hour, Refused}
+use Rattle.hours.specs.declared.PlainRead.{PlainRead}
 use Rattle.hours.specs.declared.PlainRead.the-variants as plain
 use Rattle.hours.proofs.Spelling as spelling
+use Rattle.hours.proofs.read_hour.Reads as read-hour
+use Rattle.hours.proofs.read_plain.Reads as read-plain
 
 -- 2d: a field reads as an hour exactly when it is spelled as the paper says
-pub reads-exactly : (field : List ℕ) (hour : ℕ) → (hourOf comma field ≡ right hour) ↔ Spells comma field hour
-reads-exactly = spelling.reads-exactly comma refl
+pub reads-exactly : (field : List ℕ) (hour : ℕ) → (hourOf 44 field ≡ right hour) ↔ Spells 44 field hour
+reads-exactly = spelling.reads-exactly 44 refl
 
 -- and every hour that is read is at most 999,999
-pub read-at-most : (field : List ℕ) (hour : ℕ) → hourOf comma field ≡ right hour → hour ≤ lastHour
-read-at-most = spelling.read-at-most comma refl
+pub read-at-most : (field : List ℕ) (hour : ℕ) → hourOf 44 field ≡ right hour → hour ≤ 999_999
+read-at-most = spelling.read-at-most 44 refl
 
 -- 1b: refusal 3, and no other, exactly when the field spells no hour
-pub refused-by-three : (field : List ℕ) (number : ℕ) → (hourOf comma field ≡ wrong number) ↔ ((number ≡ 3) × ((hour : ℕ) → Spells comma field hour → ⊥))
-refused-by-three = spelling.refused-exactly comma refl
+pub refused-by-three : (field : List ℕ) (number : ℕ) → (hourOf 44 field ≡ wrong number) ↔ ((number ≡ 3) × ((hour : ℕ) → Spells 44 field hour → ⊥))
+refused-by-three = spelling.refused-exactly 44 refl
 
 -- a field reads as a plain number exactly when it is one, and as what it is worth
 pub plain-exactly : (field : List ℕ) (number : ℕ) → (plainOf field ≡ right number) ↔ (Plain field × (number ≡ valueOf field))
@@ -36,7 +40,14 @@ plain-exactly = spelling.plain-exactly
 pub refused-by-two : (field : List ℕ) (number : ℕ) → (plainOf field ≡ wrong number) ↔ ((number ≡ 2) × (Plain field → ⊥))
 refused-by-two = spelling.plain-refused
 
--- the paper's number and values tell the cases of an answer apart
+-- the paper's number and value for each case of an answer
+pub as-hour : (number : ℕ) → (asHour (Hour number) ≡ right number) × (asHour (Refused number) ≡ wrong number)
+as-hour number = (refl, refl)
+
+pub as-plain : (number : ℕ) → (asPlain (plain.Number number) ≡ right number) × (asPlain (plain.Refused number) ≡ wrong number)
+as-plain number = (refl, refl)
+
+-- they tell the cases apart
 hour-told : Injective asHour
 hour-told (Hour one) (Hour other) same = ap Hour (same-right same)
 hour-told (Hour one) (Refused other) same = absurd (never-right (sym same))
@@ -49,12 +60,38 @@ plain-told (plain.Number one) (plain.Refused other) same = absurd (never-right (
 plain-told (plain.Refused one) (plain.Number other) same = absurd (never-right same)
 plain-told (plain.Refused one) (plain.Refused other) same = ap plain.Refused (same-wrong same)
 
--- 1d: each public function's contract admits a single outcome
-pub class-of-single : (byte : ℕ) → Single (λ class. class ≡ classOf comma byte)
-class-of-single byte = single-value (classOf comma byte)
+module _ (κs : Lfts 1) (field : _) (after : _) where
+  -- 1d: the contract of `read_hour` admits a single outcome
+  pub read-hour-single : Single (λ answer. read-hour.Learnt κs (field, tt) answer (after, tt))
+  read-hour-single one other this that = hour-told one other (cc)
 
-pub read-hour-single : (field : List ℕ) → Single (λ answer. asHour answer ≡ hourOf comma field)
-read-hour-single field = single-answer asHour hour-told (hourOf comma field)
+  -- it answers an hour exactly when the field spells it
+  pub read-hour-exactly :
+      (answer : HourRead) → read-hour.Learnt κs (field, tt) answer (after, tt) → (hour : ℕ) → (answer ≡ Hour hour) ↔ Spells 44 (field .now) hour
+  read-hour-exactly answer learnt hour =
+      Iff·trans (answered-exactly asHour hour-told answer (Hour hour) learnt) (reads-exactly (field .now) hour)
 
-pub read-plain-single : (field : List ℕ) → Single (λ answer. asPlain answer ≡ plainOf field)
-read-plain-single field = single-answer asPlain plain-told (plainOf field)
+  -- and refuses it, by 3, exactly when it spells none
+  pub read-hour-refused :
+      (answer : HourRead) → read-hour.Learnt κs (field, tt) answer (after, tt) → (number : ℕ)
+      → (answer ≡ Refused number) ↔ ((number ≡ 3) × ((hour : ℕ) → Spells 44 (field .now) hour → ⊥))
+  read-hour-refused answer learnt number =
+      Iff·trans (answered-exactly asHour hour-told answer (Refused number) learnt) (refused-by-three (field .now) number)
+
+  -- 1d: the contract of `read_plain` admits a single outcome
+  pub read-plain-single : Single (λ answer. read-plain.Learnt κs (field, tt) answer (after, tt))
+  read-plain-single one other this that = plain-told one other (cc)
+
+  -- it answers a number exactly when the field is plain and worth it
+  pub read-plain-exactly :
+      (answer : PlainRead) → read-plain.Learnt κs (field, tt) answer (after, tt) → (number : ℕ)
+      → (answer ≡ plain.Number number) ↔ (Plain (field .now) × (number ≡ valueOf (field .now)))
+  read-plain-exactly answer learnt number =
+      Iff·trans (answered-exactly asPlain plain-told answer (plain.Number number) learnt) (plain-exactly (field .now) number)
+
+  -- and refuses it, by 2, exactly when it is not plain
+  pub read-plain-refused :
+      (answer : PlainRead) → read-plain.Learnt κs (field, tt) answer (after, tt) → (number : ℕ)
+      → (answer ≡ plain.Refused number) ↔ ((number ≡ 2) × (Plain (field .now) → ⊥))
+  read-plain-refused answer learnt number =
+      Iff·trans (answered-exactly asPlain plain-told answer (plain.Refused number) learnt) (refused-by-two (field .now) number)

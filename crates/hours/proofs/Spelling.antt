@@ -9,17 +9,18 @@ use native.Mathlib.Omega.{arith}
 use Rattle.ground.specs.Refusal.{wrong, right}
 use Rattle.ground.specs.Range.{within}
 use Rattle.ground.specs.Limits.{lastHour}
-use Rattle.ground.specs.Digits.{isDigit, digitOf, valueAfter, valueOf, Plain}
+use Rattle.ground.specs.Spelling.{DigitByte, valueAfter, valueOf, Plain}
 use Rattle.ground.proofs.Range.{within-low, within-high}
 use Rattle.ground.proofs.Refusal.{never-right, same-right, same-wrong, refused-otherwise}
-use Rattle.ground.proofs.Digits.{digit-high, plain-one, plain-more, plain-worth, value-more}
+use Rattle.ground.proofs.Digits.{plain-one, plain-more, plain-worth, value-more}
+use Rattle.classes.specs.Classes.{comma, isDigit, digitOf, classOf}
+use Rattle.classes.proofs.Classes.{class-of-digit, class-of-mark}
 use Rattle.hours.specs.Spelling.{Spells}
 use Rattle.hours.specs.Spelling.Spells.{hours, tenths, hundredths}
-use Rattle.hours.specs.Classes.{comma, classOf}
 use Rattle.hours.specs.Reading.{longer, nextAtDigit, nextAtMark, next, scanned, ended, hourOf, endedPlain, plainOf}
 use Rattle.hours.specs.declared.Stage.{Stage}
 use Rattle.hours.specs.declared.Stage.the-variants.{Start, Whole, Marked, Tenth, Hundredth, Broken}
-use Rattle.hours.proofs.Classes.{class-of-digit, class-of-mark, after-another, Seen, a-digit, the-mark, another, seen}
+use Rattle.hours.proofs.Classes.{after-another, Seen, a-digit, the-mark, another, seen}
 use Rattle.hours.proofs.Scanning.{scan-append, scan-plain}
 
 -- a word that is a whole part, and what it is worth
@@ -39,9 +40,9 @@ Reached mark front Start = front ≡ []
 Reached mark front (Whole whole) = WholePart front whole
 Reached mark front (Marked whole) = Front mark front whole []
 Reached mark front (Tenth whole tenth) =
-    (first : ℕ) × (isDigit first ≡ true) × (digitOf first ≡ tenth) × Front mark front whole (first ∷ [])
+    (first : ℕ) × DigitByte first × (digitOf first ≡ tenth) × Front mark front whole (first ∷ [])
 Reached mark front (Hundredth whole tenth hundredth) =
-    (first : ℕ) × (second : ℕ) × (isDigit first ≡ true) × (isDigit second ≡ true) × (digitOf first ≡ tenth) × (digitOf second ≡ hundredth)
+    (first : ℕ) × (second : ℕ) × DigitByte first × DigitByte second × (digitOf first ≡ tenth) × (digitOf second ≡ hundredth)
     × Front mark front whole (first ∷ second ∷ [])
 Reached mark front Broken = Unit {0}
 
@@ -52,7 +53,7 @@ front-more {mark} {after = after} byte f =
 
 -- a digit more in the whole part, where it takes one
 part-more :
-    (mark : ℕ) (front : List ℕ) (whole byte : ℕ) → isDigit byte ≡ true → WholePart front whole
+    (mark : ℕ) (front : List ℕ) (whole byte : ℕ) → DigitByte byte → WholePart front whole
     → Reached mark (front ++ byte ∷ []) (longer whole (digitOf byte))
 part-more mark front whole byte digit p = go (within 1 999 whole) refl
   where
@@ -69,7 +70,7 @@ part-more mark front whole byte digit p = go (within 1 999 whole) refl
     go false inside = tt
 
 reached-digit :
-    (mark : ℕ) (front : List ℕ) (stage : Stage) (byte : ℕ) → isDigit byte ≡ true → Reached mark front stage
+    (mark : ℕ) (front : List ℕ) (stage : Stage) (byte : ℕ) → DigitByte byte → Reached mark front stage
     → Reached mark (front ++ byte ∷ []) (nextAtDigit stage (digitOf byte))
 unfolding valueOf valueAfter
 reached-digit mark front Start byte digit r =
@@ -100,9 +101,9 @@ ended-by-three Broken e = sym (same-wrong e)
 -- an hour that is spelled is at most 9999,99, in at most seven bytes
 spelled-at-most : {mark : ℕ} (field : List ℕ) (hour : ℕ) → Spells mark field hour → hour ≤ lastHour
 spelled-at-most field hour (hours plain e) = omega (arith, plain-worth field plain)
-spelled-at-most field hour (tenths word tenth plain digit spelled e) = omega (arith, plain-worth word plain, digit-high tenth digit)
+spelled-at-most field hour (tenths word tenth plain digit spelled e) = omega (arith, plain-worth word plain)
 spelled-at-most field hour (hundredths word tenth hundredth plain digit other spelled e) =
-    omega (arith, plain-worth word plain, digit-high tenth digit, digit-high hundredth other)
+    omega (arith, plain-worth word plain)
 
 spelled-length : {mark : ℕ} (field : List ℕ) (hour : ℕ) → Spells mark field hour → length field ≤ 7
 spelled-length field hour (hours plain e) = omega (arith, plain .most)
@@ -146,9 +147,9 @@ module _ (mark : ℕ) (unlike : isDigit mark ≡ false) where
   -- and a field reads as what it spells
   reads-what-it-spells : (field : List ℕ) (hour : ℕ) → Spells mark field hour → hourOf mark field ≡ right hour
   unfolding hourOf scanned
-  reads-what-it-spells field hour (hours plain e) = rw (scan-plain mark field plain, e)
+  reads-what-it-spells field hour (hours plain e) = rw (scan-plain mark field plain, e) (ap right (omega arith))
   reads-what-it-spells field hour (tenths word tenth plain digit spelled e) =
-      rw (spelled, scan-append, scan-plain mark word plain, class-of-mark mark unlike, class-of-digit mark tenth digit, e)
+      rw (spelled, scan-append, scan-plain mark word plain, class-of-mark mark unlike, class-of-digit mark tenth digit, e) (ap right (omega arith))
   reads-what-it-spells field hour (hundredths word tenth hundredth plain digit other spelled e) =
       rw (spelled, scan-append, scan-plain mark word plain, class-of-mark mark unlike, class-of-digit mark tenth digit, class-of-digit mark hundredth other, e)
 

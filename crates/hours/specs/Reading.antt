@@ -4,10 +4,9 @@ use mathlib.Core.Bool.{cond}
 use mathlib.Core.List.{List, [], _∷_}
 use Rattle.ground.specs.Range.{within}
 use Rattle.ground.specs.Refusal.{Read, wrong, right}
-use Rattle.hours.specs.Spelling.{inHundredths}
-use Rattle.hours.specs.Classes.{comma, classOf}
-use Rattle.hours.specs.declared.Class.{Class}
-use Rattle.hours.specs.declared.Class.the-variants.{Digit, Mark, Tab, LineEnd, Foreign}
+use Rattle.classes.specs.Classes.{comma, classOf}
+use Rattle.classes.specs.declared.Class.{Class}
+use Rattle.classes.specs.declared.Class.the-variants.{Digit, Mark, Tab, LineEnd, Foreign}
 use Rattle.hours.specs.declared.Stage.{Stage}
 use Rattle.hours.specs.declared.Stage.the-variants.{Start, Whole, Marked, Tenth, Hundredth, Broken}
 use Rattle.hours.specs.declared.HourRead.{HourRead}
@@ -50,6 +49,10 @@ next stage Foreign = Broken
 unfoldable pub scanned : ℕ → Stage → List ℕ → Stage
 scanned mark stage [] = stage
 scanned mark stage (byte ∷ rest) = scanned mark (next stage (classOf mark byte)) rest
+
+-- "Inside, an hour is a whole number of hundredths": from its whole part, its tenth and its hundredth
+abbrev pub inHundredths : ℕ → ℕ → ℕ → ℕ
+inHundredths whole tenth hundredth = whole * 100 + tenth * 10 + hundredth
 
 -- what has been read where the field ends: "One digit after the comma means tenths"; 3 where no hour ends here
 abbrev pub ended : Stage → Read ℕ

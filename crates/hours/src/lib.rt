@@ -1,20 +1,11 @@
-// An hour as text: bytes sorted into classes, a field read into hundredths; plain numbers read.
+// An hour as text: a field read into hundredths, byte after byte by its class; plain numbers read.
 // Any bytes may come; nothing is asked of the caller. Assumes nothing.
 ghost use mathlib.Core.Path.{_≡_};
 ghost use Prim.Native.Nat.{_≤_};
 ghost use lib.ListN.{length, take};
-ghost use Rattle.hours.specs.Spelling.{inHundredths};
-ghost use Rattle.hours.specs.Classes.{comma, classOf};
-ghost use Rattle.hours.specs.Reading.{longer, nextAtDigit, nextAtMark, next, scanned, ended, hourOf, asHour, endedPlain, plainOf, asPlain};
-
-// What a byte is to a reader. A digit comes with its worth.
-pub enum Class {
-    Digit(u8),
-    Mark,
-    Tab,
-    LineEnd,
-    Foreign,
-}
+ghost use Rattle.classes.specs.Classes.{comma};
+ghost use Rattle.hours.specs.Reading.{longer, nextAtDigit, nextAtMark, next, scanned, inHundredths, ended, hourOf, asHour, endedPlain, plainOf, asPlain};
+use classes::Class;
 
 // How far the reading of an hour has come: the whole part, the tenth and the hundredth read so far.
 enum Stage {
@@ -36,19 +27,6 @@ pub enum HourRead {
 pub enum PlainRead {
     Number(u32),
     Refused(u32),
-}
-
-// The class of a byte, with the comma for decimal mark.
-pub fn class_of(byte: u8) -> Class
-    ensures { λ r. ⌜ r ≡ classOf comma byte ⌝ }
-{
-    match byte {
-        b'0'..=b'9' => Class::Digit(byte - b'0'),
-        b',' => Class::Mark,
-        b'\t' => Class::Tab,
-        b'\n' => Class::LineEnd,
-        _ => Class::Foreign,
-    }
 }
 
 // A whole part with one more digit: it has fewer than four so far, and does not start with 0.
@@ -112,7 +90,7 @@ fn scan(field: &[u8]) -> Stage
     let mut stage = Stage::Start;
     let mut at: usize = 0;
     while at < field.len() {
-        stage = next(stage, class_of(field[at]));
+        stage = next(stage, classes::class_of(field[at]));
         at += 1;
     }
     stage

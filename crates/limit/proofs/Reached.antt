@@ -2,7 +2,7 @@
 use mathlib.Core.Path.{_≡_, refl}
 use Rattle.ground.specs.Refusal.{right}
 use Rattle.ground.specs.Text.{bytes}
-use Rattle.hours.specs.Classes.{classOf}
+use Rattle.classes.specs.Classes.{classOf}
 use Rattle.hours.specs.Reading.{scanned, hourOf, plainOf}
 use Rattle.texts.specs.Lines.{linesOf, lineLength, lineAt}
 use Rattle.fields.specs.Fields.{sameBytes, isEnded, fieldsOf, shapeOf}

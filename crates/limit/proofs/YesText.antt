@@ -9,7 +9,7 @@ use native.Mathlib.Omega.{arith}
 use Rattle.ground.specs.Refusal.{right}
 use Rattle.ground.proofs.Digits.{spelled-most}
 use Rattle.ground.proofs.Tests.{by-test}
-use Rattle.hours.specs.Classes.{comma}
+use Rattle.classes.specs.Classes.{comma}
 use Rattle.writer.proofs.Writing.{length-of-text}
 use Rattle.texts.specs.Lines.{lineEnd, linesOf}
 use Rattle.fields.specs.Fields.{isNone, isEnded}

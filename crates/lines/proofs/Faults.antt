@@ -9,11 +9,11 @@ use lib.Dec.{eqb}
 use Rattle.ground.specs.Refusal.{Read, wrong, right, _>>=_, _>>_}
 use Rattle.ground.specs.Range.{within}
 use Rattle.ground.specs.Limits.{lastHour, mostChambers, longestRun, lastPlain}
-use Rattle.ground.specs.Digits.{valueOf}
+use Rattle.ground.specs.Spelling.{valueOf}
 use Rattle.ground.proofs.Refusal.{never-right, same-right, same-wrong, checked-right, checked-wrong}
 use Rattle.ground.proofs.Range.{within-from, within-low, within-high, outside-exactly}
 use Rattle.ground.proofs.Tests.{by-test, never-both, not-met}
-use Rattle.hours.specs.Classes.{comma}
+use Rattle.classes.specs.Classes.{comma}
 use Rattle.hours.specs.Reading.{hourOf, plainOf}
 use Rattle.hours.proofs.Promises.{reads-exactly, refused-by-three, plain-exactly, refused-by-two}
 use Rattle.fields.specs.Fields.{isEnded, fieldsOf, field, sameBytes, shapeOf}

@@ -11,7 +11,7 @@ use Rattle.ground.specs.Refusal.{Read, wrong, right, check, _>>=_, _>>_}
 use Rattle.ground.specs.Limits.{lastHour, lastPlain}
 use Rattle.ground.proofs.Range.{within-from}
 use Rattle.ground.proofs.Digits.{plain-worth}
-use Rattle.hours.specs.Classes.{comma}
+use Rattle.classes.specs.Classes.{comma}
 use Rattle.hours.specs.Reading.{hourOf, plainOf}
 use Rattle.hours.proofs.Promises.{read-at-most, plain-exactly}
 use Rattle.fields.specs.Fields.{isEnded, fieldsOf, fieldCount, shapeOf}

@@ -4,8 +4,8 @@ use Prim.Native.Nat.{ℕ, _≤_}
 use mathlib.Core.Path.{_≡_}
 use mathlib.Core.List.{List}
 use Rattle.ground.specs.Limits.{lastHour, mostChambers, longestRun, lastPlain}
-use Rattle.ground.specs.Digits.{Plain, valueOf}
-use Rattle.hours.specs.Classes.{comma}
+use Rattle.ground.specs.Spelling.{Plain, valueOf}
+use Rattle.classes.specs.Classes.{comma}
 use Rattle.hours.specs.Spelling.{Spells}
 use Rattle.fields.specs.Meaning.{HasFields}
 use Rattle.fields.specs.Fields.{field}

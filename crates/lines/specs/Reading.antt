@@ -5,7 +5,7 @@ use Rattle.ground.specs.Refusal.{Read, wrong, right, check, _>>=_, _>>_}
 use Rattle.ground.specs.Range.{within}
 use Rattle.ground.specs.Limits.{mostChambers, longestRun}
 use Rattle.ground.specs.Text.{bytes}
-use Rattle.hours.specs.Classes.{comma}
+use Rattle.classes.specs.Classes.{comma}
 use Rattle.hours.specs.Reading.{hourOf, plainOf}
 use Rattle.fields.specs.Fields.{field, sameBytes, shapeOf}
 use Rattle.lines.specs.declared.Heading.{Heading}

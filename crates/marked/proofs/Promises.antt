@@ -2,7 +2,7 @@
 use mathlib.Core.Path.{refl}
 use Rattle.ground.specs.Digits.{spelledWithin, spelled}
 use Rattle.ground.specs.Text.{bytes}
-use Rattle.hours.specs.Classes.{classOf}
+use Rattle.classes.specs.Classes.{classOf}
 use Rattle.hours.specs.Reading.{scanned, hourOf, plainOf}
 use Rattle.writer.specs.Writing.{hourText}
 use Rattle.texts.specs.Lines.{linesOf, lineLength, lineAt, pastLine}

@@ -11,7 +11,7 @@ use Rattle.ground.specs.Limits.{lastHour}
 use Rattle.ground.specs.Buffer.{onto, fitted, bufferAfter}
 use Rattle.ground.proofs.Tests.{by-test}
 use Rattle.ground.proofs.Buffer.{front-of-onto, rest-of-onto, length-of-onto, onto-all, onto-byte}
-use Rattle.hours.specs.Classes.{comma}
+use Rattle.classes.specs.Classes.{comma}
 use Rattle.writer.specs.Writing.{hourText, hourWritten}
 use Rattle.writer.proofs.Writing.{written-exactly}
 use Rattle.pieces.specs.Placing.{hasRoom, placed, behind, stopped, hourStopped}

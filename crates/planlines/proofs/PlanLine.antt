@@ -19,7 +19,7 @@ use Rattle.ground.proofs.Tests.{by-test, never-both, not-met, both, first-of, s
 use Rattle.ground.proofs.Range.{within-from, within-low, within-high}
 use Rattle.ground.proofs.Writing as writing
 use Rattle.ground.proofs.Buffer.{onto-all, onto-byte, onto-part}
-use Rattle.hours.specs.Classes.{comma}
+use Rattle.classes.specs.Classes.{comma}
 use Rattle.writer.specs.Writing.{hourText, hourWritten}
 use Rattle.texts.specs.Lines.{lineEnd}
 use Rattle.fields.specs.Fields.{tab}

@@ -8,14 +8,15 @@ use native.Mathlib.Omega.{arith}
 use borrow.Author.Tests.{ne-eqb}
 use Rattle.ground.specs.Refusal.{right}
 use Rattle.ground.specs.Limits.{mostChambers, lastPlain}
-use Rattle.ground.specs.Digits.{isDigit, allDigits, lastDigit, spelled}
+use Rattle.ground.specs.Spelling.{DigitByte, AllDigits}
+use Rattle.ground.specs.Digits.{lastDigit, spelled}
 use Rattle.ground.specs.Buffer.{fitted, lengthOf, bufferAfter}
-use Rattle.ground.proofs.Tests.{both, first-of, second-of}
+use Rattle.ground.proofs.Tests.{both}
 use Rattle.ground.proofs.Range.{within-from}
 use Rattle.ground.proofs.Refusal.{same-right}
-use Rattle.ground.proofs.Digits.{digit-low, last-is-digit, spelled-digits, spelled-worth, spelled-plain}
+use Rattle.ground.proofs.Digits.{last-is-digit, spelled-digits, spelled-worth, spelled-plain}
 use Rattle.ground.proofs.Buffer.{written-front}
-use Rattle.hours.specs.Classes.{comma}
+use Rattle.classes.specs.Classes.{comma}
 use Rattle.hours.specs.Reading.{plainOf}
 use Rattle.writer.specs.Writing.{hourText}
 use Rattle.hours.proofs.Promises.{plain-exactly}
@@ -34,14 +35,14 @@ clean-byte : (byte : ℕ) (rest : List ℕ) → (byte ≡ tab → ⊥) → (byte
 unfolding isClean
 clean-byte byte rest no-tab no-end clean = rw (ne-eqb byte tab no-tab, ne-eqb byte lineEnd no-end) clean
 
-clean-digit : (byte : ℕ) (rest : List ℕ) → isDigit byte ≡ true → isClean rest ≡ true → isClean (byte ∷ rest) ≡ true
-clean-digit byte rest digit clean = clean-byte byte rest (λ e. omega (arith, digit-low byte digit)) (λ e. omega (arith, digit-low byte digit)) clean
+clean-digit : (byte : ℕ) (rest : List ℕ) → DigitByte byte → isClean rest ≡ true → isClean (byte ∷ rest) ≡ true
+clean-digit byte rest digit clean = clean-byte byte rest (λ e. omega arith) (λ e. omega arith) clean
 
-clean-digits : (word rest : List ℕ) → allDigits word ≡ true → isClean rest ≡ true → isClean (word ++ rest) ≡ true
-unfolding allDigits
+clean-digits : (word rest : List ℕ) → AllDigits word → isClean rest ≡ true → isClean (word ++ rest) ≡ true
+unfolding AllDigits
 clean-digits [] rest all clean = clean
 clean-digits (byte ∷ word) rest all clean =
-    clean-digit byte (word ++ rest) (first-of (isDigit byte) (allDigits word) all) (clean-digits word rest (second-of (isDigit byte) (allDigits word) all) clean)
+    clean-digit byte (word ++ rest) (all .0) (clean-digits word rest (all .1) clean)
 
 pub clean-number : (number : ℕ) → isClean (spelled number) ≡ true
 unfolding isClean

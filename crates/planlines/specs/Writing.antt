@@ -7,7 +7,7 @@ use Rattle.ground.specs.Refusal.{Read, right, check, _>>=_, _>>_}
 use Rattle.ground.specs.Range.{within}
 use Rattle.ground.specs.Limits.{lastHour, mostChambers, firstOrderLine, lastOrderLine}
 use Rattle.ground.specs.Digits.{spelled}
-use Rattle.hours.specs.Classes.{comma}
+use Rattle.classes.specs.Classes.{comma}
 use Rattle.writer.specs.Writing.{hourText, hourWritten}
 use Rattle.texts.specs.Lines.{lineEnd}
 use Rattle.fields.specs.Fields.{tab}

@@ -7,7 +7,7 @@ ghost use lib.ListN.{length};
 ghost use Rattle.ground.specs.Limits.{lastHour};
 ghost use Rattle.ground.specs.Digits.{spelled};
 ghost use Rattle.ground.specs.Buffer.{fitted, lengthOf, bufferAfter};
-ghost use Rattle.hours.specs.Classes.{comma};
+ghost use Rattle.classes.specs.Classes.{comma};
 ghost use Rattle.writer.specs.Writing.{hourText, asLength};
 ghost use Rattle.texts.specs.Lines.{lineEnd};
 ghost use Rattle.fields.specs.Fields.{tab};

@@ -15,7 +15,7 @@ use Rattle.ground.specs.Text.{bytes}
 use Rattle.ground.proofs.Tests.{by-test, never-both}
 use Rattle.ground.proofs.Digits.{spelled-most}
 use Rattle.ground.proofs.Writing as writing
-use Rattle.hours.specs.Classes.{comma}
+use Rattle.classes.specs.Classes.{comma}
 use Rattle.writer.specs.Writing.{hourText}
 use Rattle.writer.proofs.Writing.{length-of-text}
 use Rattle.texts.specs.Lines.{lineEnd}

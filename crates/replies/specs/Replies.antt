@@ -7,7 +7,7 @@ use Rattle.ground.specs.Refusal.{Read, wrong, right, check, _>>_}
 use Rattle.ground.specs.Limits.{lastHour}
 use Rattle.ground.specs.Digits.{spelled}
 use Rattle.ground.specs.Text.{bytes}
-use Rattle.hours.specs.Classes.{comma}
+use Rattle.classes.specs.Classes.{comma}
 use Rattle.writer.specs.Writing.{hourText}
 use Rattle.texts.specs.Lines.{lineEnd}
 use Rattle.texts.specs.Meaning.{joined}

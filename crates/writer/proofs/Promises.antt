@@ -14,7 +14,7 @@ use Rattle.ground.specs.Outcome.{Injective, Single}
 use Rattle.ground.proofs.Buffer.{refused-stays, written-rest}
 use Rattle.ground.proofs.Refusal.{never-right, same-right, same-wrong}
 use Rattle.ground.proofs.Outcome.{single-value, single-writing}
-use Rattle.hours.specs.Classes.{comma}
+use Rattle.classes.specs.Classes.{comma}
 use Rattle.hours.specs.Reading.{hourOf}
 use Rattle.writer.specs.Writing.{hourText, hourWritten, asLength, textIn}
 use Rattle.writer.specs.declared.Written.{Written}

@@ -10,12 +10,13 @@ use native.Mathlib.Omega.{arith}
 use borrow.Author.Tests.{leb-true, leb-false, le-leb, lt-leb}
 use Rattle.ground.specs.Refusal.{Read, right, wrong, check, _>>_}
 use Rattle.ground.specs.Limits.{lastHour}
-use Rattle.ground.specs.Digits.{isDigit, lastDigit, spelled}
+use Rattle.ground.specs.Digits.{lastDigit, spelled}
 use Rattle.ground.specs.Buffer.{onto, fitted, lengthOf, bufferAfter}
 use Rattle.ground.proofs.Refusal.{never-right, same-right}
 use Rattle.ground.proofs.Digits.{last-is-digit, spelled-worth, spelled-plain}
 use Rattle.ground.proofs.Writing as writing
 use Rattle.ground.proofs.Buffer.{front-of-onto, written-front}
+use Rattle.classes.specs.Classes.{isDigit}
 use Rattle.hours.specs.Spelling.{Spells}
 use Rattle.hours.specs.Spelling.Spells.{hundredths}
 use Rattle.hours.specs.Reading.{hourOf}

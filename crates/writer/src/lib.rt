@@ -8,7 +8,7 @@ ghost use lib.ListN.{length};
 ghost use lib.Dec.{leb};
 ghost use Rattle.ground.specs.Digits.{spelled, lastDigits};
 ghost use Rattle.ground.specs.Buffer.{fitted, lengthOf, bufferAfter};
-ghost use Rattle.hours.specs.Classes.{comma};
+ghost use Rattle.classes.specs.Classes.{comma};
 ghost use Rattle.writer.specs.Writing.{hourWritten, asLength, frontOf, textIn};
 use ground::LAST_HOUR;
 use ground::check;

@@ -5,7 +5,7 @@ use native.Mathlib.Omega.{arith}
 use borrow.Author.Needs.{needs}
 use lib.ListN.{length, drop, getD}
 use lib.Dec.{eqb}
-use Rattle.hours.specs.Classes.{comma, classOf}
+use Rattle.classes.specs.Classes.{comma, classOf}
 use Rattle.fields.specs.Fields.{isEnded, fieldsOf, fieldCount}
 use Rattle.fields.specs.Steps.{endsLine, tabsIn}
 use Rattle.fields.proofs.Splitting.{ended-here, counted-on, not-ended, tabs-most}

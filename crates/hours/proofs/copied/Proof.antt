@@ -28,21 +28,6 @@ Inv-loop field copy₀ at₀ copy at = (at ≤ length field) × (length copy ≡
 abbrev μ-loop : tie.MeasureT-loop
 μ-loop field copy₀ at₀ copy at = length field - at
 
-loop-holds : tie.Need-loop-holds Inv-loop μ-loop
-loop-holds c = search needs
-
-shared-slice-read-copy : tie.Need-shared-slice-read-copy Inv-loop μ-loop
-shared-slice-read-copy c = search needs
-
-array-write-copy : tie.Need-array-write-copy Inv-loop μ-loop
-array-write-copy c = search needs
-
-add-at : tie.Need-add-at Inv-loop μ-loop
-add-at c = search needs
-
-loop-less : tie.Need-loop-less Inv-loop μ-loop
-loop-less c = search needs
-
 loop-again : tie.Need-loop-again Inv-loop μ-loop
 loop-again c =
     let l = c .before .before .loop in
@@ -57,10 +42,10 @@ copied-spec =
     (tie.spec
     Inv-loop
     μ-loop
-    loop-holds
-    shared-slice-read-copy
-    array-write-copy
-    add-at
-    loop-less
+    (λ c. search needs)
+    (λ c. search needs)
+    (λ c. search needs)
+    (λ c. search needs)
+    (λ c. search needs)
     loop-again
     returns)

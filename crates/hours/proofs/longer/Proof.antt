@@ -11,14 +11,8 @@ returns c = simp (lt-leb 1 (c .before .args .whole) (omega arith))
 returns-2 : tie.Need-returns-2
 returns-2 c = let w = c .before .before .args .whole in simp (le-leb 1 w (omega arith), lt-leb w 999 (omega arith))
 
-mul-t4 : tie.Need-mul-t4
-mul-t4 c = search needs
-
-add-t6 : tie.Need-add-t6
-add-t6 c = search needs
-
 returns-3 : tie.Need-returns-3
 returns-3 c = let w = c .before .before .args .whole in simp (le-leb 1 w (omega arith), le-leb w 999 (omega arith))
 
 pub longer-spec : {M : Type 1} → statement M
-longer-spec = tie.close (tie.spec returns returns-2 mul-t4 add-t6 returns-3)
+longer-spec = tie.close (tie.spec returns returns-2 (λ c. search needs) (λ c. search needs) returns-3)

@@ -1,56 +1,24 @@
+-- `next_at_mark` goes by the stage, case by case.
 use borrow.Author.Needs.{needs}
 use Rattle.hours.proofs.next_at_mark.Statement.{statement}
 use Rattle.hours.proofs.next_at_mark.Tie as tie
 
-enum-told : tie.Need-enum-told
-enum-told c = search needs
-
-enum-known-stage : tie.Need-enum-known-stage
-enum-known-stage c = search needs
-
-enum-told-2 : tie.Need-enum-told-2
-enum-told-2 c = search needs
-
-enum-told-3 : tie.Need-enum-told-3
-enum-told-3 c = search needs
-
-enum-told-4 : tie.Need-enum-told-4
-enum-told-4 c = search needs
-
-enum-told-5 : tie.Need-enum-told-5
-enum-told-5 c = search needs
-
-returns : tie.Need-returns
-returns c = search needs
-
 returns-2 : tie.Need-returns-2
 returns-2 c = rw (c .before .stage .given .1)
-
-returns-3 : tie.Need-returns-3
-returns-3 c = search needs
-
-returns-4 : tie.Need-returns-4
-returns-4 c = search needs
-
-returns-5 : tie.Need-returns-5
-returns-5 c = search needs
-
-returns-6 : tie.Need-returns-6
-returns-6 c = search needs
 
 pub next-at-mark-spec : {M : Type 1} → statement M
 next-at-mark-spec =
     tie.close
     (tie.spec
-    enum-told
-    enum-known-stage
-    enum-told-2
-    enum-told-3
-    enum-told-4
-    enum-told-5
-    returns
+    (λ c. search needs)
+    (λ c. search needs)
+    (λ c. search needs)
+    (λ c. search needs)
+    (λ c. search needs)
+    (λ c. search needs)
+    (λ c. search needs)
     returns-2
-    returns-3
-    returns-4
-    returns-5
-    returns-6)
+    (λ c. search needs)
+    (λ c. search needs)
+    (λ c. search needs)
+    (λ c. search needs))

@@ -4,15 +4,9 @@ use Rattle.hours.specs.Reading.{plainOf}
 use Rattle.hours.proofs.read_plain.Statement.{statement}
 use Rattle.hours.proofs.read_plain.Tie as tie
 
-scan-requires : tie.Need-scan-requires
-scan-requires c κs = search needs
-
-ended-plain-requires : tie.Need-ended-plain-requires
-ended-plain-requires c κs = search needs
-
 returns : tie.Need-returns
 unfolding plainOf
 returns c = rw (c .ended-plain .ensures, c .before .scan .ensures)
 
 pub read-plain-spec : {M : Type 1} → statement M
-read-plain-spec = tie.close (tie.spec scan-requires ended-plain-requires returns)
+read-plain-spec = tie.close (tie.spec (λ c κs. search needs) (λ c κs. search needs) returns)

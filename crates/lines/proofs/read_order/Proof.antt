@@ -3,7 +3,7 @@ use Prim.Native.Nat.{ℕ}
 use mathlib.Core.Path.{_≡_, sym, _∙_}
 use borrow.Author.Needs.{needs}
 use Rattle.ground.specs.Refusal.{right, _>>=_}
-use Rattle.hours.specs.Classes.{comma}
+use Rattle.classes.specs.Classes.{comma}
 use Rattle.hours.specs.Reading.{hourOf}
 use Rattle.fields.specs.Fields.{field}
 use Rattle.lines.specs.Reading.{orderOf, plainWithin, lastGrower}

@@ -6,7 +6,7 @@ use borrow.Author.Needs.{needs}
 use borrow.Author.Tests.{ltb-true, ltb-false}
 use Rattle.ground.specs.Limits.{lastHour}
 use Rattle.ground.proofs.Digits.{spelled-short}
-use Rattle.hours.specs.Classes.{comma}
+use Rattle.classes.specs.Classes.{comma}
 use Rattle.writer.specs.Writing.{hourText}
 use Rattle.writer.proofs.Writing.{length-of-text}
 use Rattle.pieces.proofs.Placing.{field-stays, Fits, part-sized, field-put, nothing-put, hour-within, hour-above, hour-fills}

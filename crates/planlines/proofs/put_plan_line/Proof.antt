@@ -6,7 +6,7 @@ use lib.ListN.{length, length-append}
 use native.Mathlib.Omega.{arith}
 use borrow.Author.Needs.{needs}
 use Rattle.ground.specs.Digits.{spelled}
-use Rattle.hours.specs.Classes.{comma}
+use Rattle.classes.specs.Classes.{comma}
 use Rattle.writer.specs.Writing.{hourText}
 use Rattle.texts.specs.Lines.{lineEnd}
 use Rattle.fields.specs.Fields.{tab}

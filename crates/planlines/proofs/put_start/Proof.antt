@@ -9,7 +9,7 @@ use borrow.Author.Needs.{needs}
 use Rattle.ground.specs.Limits.{lastHour}
 use Rattle.ground.specs.Buffer.{fitted, bufferAfter}
 use Rattle.ground.proofs.Buffer.{onto-all}
-use Rattle.hours.specs.Classes.{comma}
+use Rattle.classes.specs.Classes.{comma}
 use Rattle.writer.specs.Writing.{hourText, hourWritten}
 use Rattle.writer.proofs.Writing.{written-exactly}
 use Rattle.texts.specs.Lines.{lineEnd}

@@ -3,7 +3,7 @@ use Prim.Native.Nat.{_/_}
 use native.Mathlib.Omega.{arith}
 use borrow.Author.Needs.{needs}
 use Rattle.ground.proofs.Digits.{spelled-short}
-use Rattle.hours.specs.Classes.{comma}
+use Rattle.classes.specs.Classes.{comma}
 use Rattle.writer.proofs.Writing as hours
 use Rattle.planlines.proofs.PlanLine.{length-of-text}
 use Rattle.planlines.proofs.text_length.Statement.{statement}

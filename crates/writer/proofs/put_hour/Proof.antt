@@ -11,7 +11,7 @@ use Rattle.ground.specs.Digits.{lastDigits}
 use Rattle.ground.specs.Buffer.{onto}
 use Rattle.ground.proofs.Digits.{length-last-digits}
 use Rattle.ground.proofs.Buffer.{length-of-onto, onto-all, onto-byte, front-filled, part-filled}
-use Rattle.hours.specs.Classes.{comma}
+use Rattle.classes.specs.Classes.{comma}
 use Rattle.writer.proofs.put_hour.Statement.{statement}
 use Rattle.writer.proofs.put_hour.Tie as tie
 

@@ -11,7 +11,7 @@ use Rattle.ground.specs.Limits.{lastHour}
 use Rattle.ground.specs.Digits.{lastDigits, spelled}
 use Rattle.ground.proofs.Digits.{spelled-short, last-digits-spelled}
 use Rattle.ground.proofs.Writing.{Checked, refused, has-room, filled}
-use Rattle.hours.specs.Classes.{comma}
+use Rattle.classes.specs.Classes.{comma}
 use Rattle.writer.specs.Writing.{hourText, hourWritten}
 use Rattle.writer.proofs.Writing.{length-of-text, tested}
 use Rattle.writer.proofs.write_hour.Statement.{statement}

@@ -1,9 +1,9 @@
 -- `class_of` gives the class of every byte: the single bytes by computing, the ranges by the tests they stand for.
 use native.Mathlib.Omega.{arith}
 use borrow.Author.Tests.{le-leb, lt-leb, ne-eqb}
-use Rattle.hours.specs.Classes.{classOf}
-use Rattle.hours.proofs.class_of.Statement.{statement}
-use Rattle.hours.proofs.class_of.Tie as tie
+use Rattle.classes.specs.Classes.{classOf}
+use Rattle.classes.proofs.class_of.Statement.{statement}
+use Rattle.classes.proofs.class_of.Tie as tie
 
 returns : tie.Need-returns
 unfolding classOf
