@@ -12,7 +12,7 @@ use Rattle.book.specs.Meaning.{Admitted}
 use Rattle.book.specs.declared.Book.{Book}
 use Rattle.choice.specs.declared.Choice.{Choice}
 use Rattle.choice.specs.declared.Choice.the-variants.{Nothing, Chamber}
-use Rattle.book.proofs.Choices.{Chosen, chosen}
+use Rattle.choice.proofs.Fitting.{Chosen, chosen}
 use Rattle.book.proofs.Refusals.{by-choice, never-by-none}
 
 -- no check refused the order

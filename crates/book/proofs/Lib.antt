@@ -1,8 +1,9 @@
 -- The laws of this room, by what they are about.
-pub mod Choices
 pub mod Soundness
+pub mod Opening
 pub mod Refusals
 pub mod Deciding
 pub mod Steps
-pub mod History
+pub mod Counting
+pub mod Source
 pub mod Promises

@@ -1,26 +1,22 @@
 -- When an order is refused, and by which number; and what is so when it is not. Assumes nothing.
 use Prim.Native.Nat.{ℕ, _≤_, _<_}
 use mathlib.Core.Path.{_≡_, refl, sym, ap, _∙_}
-use mathlib.Core.Logic.{_⊎_, inl, inr, _↔_}
+use mathlib.Core.Logic.{_⊎_, inl, inr, ⊎-elim, _↔_}
 use lib.ListN.{take}
 use lib.Dec.{leb, ltb}
 use native.Mathlib.Omega.{arith}
 use borrow.Author.Tests.{leb-true, leb-false, le-leb, lt-leb, ltb-true, ltb-false, lt-ltb, le-ltb}
 use Rattle.ground.specs.Refusal.{Read, wrong, right, check, _>>_}
 use Rattle.ground.specs.Limits.{lastHour, mostOrders}
-use Rattle.ground.proofs.Tests.{by-test, not-met}
-use Rattle.ground.proofs.Refusal.{never-right, same-right, same-wrong, passed-by, unmet-by, after-met, after-unmet}
+use Rattle.ground.proofs.Tests.{by-test, never-both, not-met}
+use Rattle.ground.proofs.Refusal.{never-right, same-right, same-wrong, after-met, after-unmet}
 use Rattle.book.specs.Soundness.{isSound}
 use Rattle.choice.specs.BestFit.{bestFit}
 use Rattle.book.specs.Taking.{decided}
-use Rattle.book.specs.Meaning.{Sound, Admitted}
+use Rattle.book.specs.Meaning.{Sound, Admitted, BookRefuses, not-sound, ready-past-last, due-past-last, book-full, below-clock}
 use Rattle.book.specs.declared.Book.{Book}
 use Rattle.choice.specs.declared.Choice.{Choice}
 use Rattle.book.proofs.Soundness.{sound-facts, sound-from}
-
-either : {A B : Type 0} → (A → ⊥) → (B → ⊥) → A ⊎ B → ⊥
-either one other (inl a) = one a
-either one other (inr b) = other b
 
 module _ (book : Book) (ready due : ℕ) where
   -- what is left to check, from the last check to the first
@@ -47,115 +43,121 @@ module _ (book : Book) (ready due : ℕ) where
   past-sound : Sound book → decided book ready due ≡ from-ready
   past-sound sound = in-order ∙ after-met 8 from-ready (sound-from book sound)
 
-  past-hours : Sound book → ready ≤ lastHour → due ≤ lastHour → decided book ready due ≡ from-room
+  past-hours : Sound book → ready ≤ 999_999 → due ≤ 999_999 → decided book ready due ≡ from-room
   past-hours sound one other = past-sound sound ∙ after-met 4 from-due (le-leb _ _ one) ∙ after-met 4 from-room (le-leb _ _ other)
 
-  -- what comes after a check has its own numbers alone
-  turn-numbers : (number : ℕ) → from-turn ≡ wrong number → number ≡ 5
-  turn-numbers number e =
-      by-test (leb (book .clock) ready) (λ met. absurd (never-right (sym e ∙ after-met 5 chosen met)))
-      (λ unmet. same-wrong (sym e ∙ after-unmet 5 chosen unmet))
+  -- an order is refused by its first fault
+  fault-given : {number : ℕ} → BookRefuses book ready due number → decided book ready due ≡ wrong number
+  fault-given (not-sound unsound) = in-order ∙ after-unmet 8 from-ready (not-met (λ met. unsound (sound-facts book met)))
+  fault-given (ready-past-last sound late) = past-sound sound ∙ after-unmet 4 from-due (lt-leb _ _ late)
+  fault-given (due-past-last sound one late) = past-sound sound ∙ after-met 4 from-due (le-leb _ _ one) ∙ after-unmet 4 from-room (lt-leb _ _ late)
+  fault-given (book-full sound one other full) =
+      past-hours sound one other ∙ after-unmet 6 from-turn (le-ltb (book .taken) mostOrders (omega (arith, full)))
+  fault-given (below-clock sound one other room early) =
+      past-hours sound one other ∙ after-met 6 from-turn (lt-ltb _ _ room) ∙ after-unmet 5 chosen (lt-leb _ _ early)
 
-  room-numbers : (number : ℕ) → from-room ≡ wrong number → (number ≡ 6) ⊎ (number ≡ 5)
-  room-numbers number e =
-      by-test (ltb (book .taken) mostOrders) (λ met. inr (turn-numbers number (sym (after-met 6 from-turn met) ∙ e)))
-      (λ unmet. inl (same-wrong (sym e ∙ after-unmet 6 from-turn unmet)))
+  -- with none it is answered by the choice
+  admitted-chosen : Admitted book ready due → decided book ready due ≡ chosen
+  admitted-chosen admitted =
+      past-hours (admitted .sound) (admitted .ready-most) (admitted .due-most)
+      ∙ after-met 6 from-turn (lt-ltb _ _ (admitted .room))
+      ∙ after-met 5 chosen (le-leb _ _ (admitted .in-turn))
 
-  never-by-room : (number : ℕ) → (number ≡ 6 → ⊥) → (number ≡ 5 → ⊥) → from-room ≡ wrong number → ⊥
-  never-by-room number not-six not-five e = either not-six not-five (room-numbers number e)
+  -- it has a first fault or none
+  record Faulty : Type 0 where
+    number : ℕ
+    fault : BookRefuses book ready due number
 
-  -- 8 exactly when the book is not sound
-  pub by-eight : (decided book ready due ≡ wrong 8) ↔ (Sound book → ⊥)
-  by-eight = (
-    λ e sound.
-        let ready-met = passed-by (leb ready lastHour) 4 from-due (wrong 8) (λ d. omega (arith, same-wrong d)) (sym (past-sound sound) ∙ e) in
-        let due-met = passed-by (leb due lastHour) 4 from-room (wrong 8) (λ d. omega (arith, same-wrong d)) (ready-met .1) in
-        never-by-room 8 (λ d. omega arith) (λ d. omega arith) (due-met .1),
-    λ unsound. in-order ∙ after-unmet 8 from-ready (not-met (λ met. unsound (sound-facts book met))),
-  )
+  faulty : {number : ℕ} → BookRefuses book ready due number → Faulty ⊎ Admitted book ready due
+  faulty {number} fault = inl (record { number = number; fault = fault })
 
-  -- 4 exactly when the book is sound and ready or due is above the last hour
-  pub by-four : (decided book ready due ≡ wrong 4) ↔ (Sound book × ((ready ≤ lastHour) × (due ≤ lastHour) → ⊥))
-  by-four = (
-    λ e.
-        let sound = sound-facts book (passed-by (isSound book) 8 from-ready (wrong 4) (λ d. omega (arith, same-wrong d)) (sym in-order ∙ e) .0) in
-        (sound, λ hours. never-by-room 4 (λ d. omega arith) (λ d. omega arith) (sym (past-hours sound (hours .0) (hours .1)) ∙ e)),
-    λ p.
-        past-sound (p .0)
-        ∙ by-test (leb ready lastHour)
-        (λ one.
-        after-met 4 from-due one
-        ∙ after-unmet 4 from-room (not-met (λ other. p .1 (leb-true _ _ one, leb-true _ _ other))))
-        (λ late. after-unmet 4 from-due late),
-  )
+  one-way : Faulty ⊎ Admitted book ready due
+  one-way = by-test (isSound book) (λ sound. hours (sound-facts book sound)) (λ unsound. faulty (not-sound (λ sound. never-both (sound-from book sound) unsound)))
+    where
+      turn : Sound book → ready ≤ 999_999 → due ≤ 999_999 → book .taken < 512 → Faulty ⊎ Admitted book ready due
+      turn sound one other room =
+          by-test (leb (book .clock) ready)
+          (λ met. inr (record { sound = sound; ready-most = one; due-most = other; room = room; in-turn = leb-true _ _ met }))
+          (λ early. faulty (below-clock sound one other room (leb-false _ _ early)))
 
-  -- what is known once the book and both hours were passed
-  past-both :
-      (result : Read Choice) → (wrong 8 ≡ result → ⊥) → (wrong 4 ≡ result → ⊥) → decided book ready due ≡ result
-      → Sound book × (ready ≤ lastHour) × (due ≤ lastHour) × (from-room ≡ result)
-  past-both result not-eight not-four e =
-      let sound = passed-by (isSound book) 8 from-ready result not-eight (sym in-order ∙ e) in
-      let one = passed-by (leb ready lastHour) 4 from-due result not-four (sound .1) in
-      let other = passed-by (leb due lastHour) 4 from-room result not-four (one .1) in
-      (sound-facts book (sound .0), leb-true _ _ (one .0), leb-true _ _ (other .0), other .1)
+      hours : Sound book → Faulty ⊎ Admitted book ready due
+      hours sound =
+          by-test (leb ready lastHour)
+          (λ one.
+          by-test (leb due lastHour)
+          (λ other.
+          by-test (ltb (book .taken) mostOrders) (λ room. turn sound (leb-true _ _ one) (leb-true _ _ other) (ltb-true _ _ room))
+          (λ full.
+          faulty
+          (book-full sound (leb-true _ _ one) (leb-true _ _ other) (omega (arith, sound .taken-most, ltb-false (book .taken) mostOrders full)))))
+          (λ late. faulty (due-past-last sound (leb-true _ _ one) (leb-false _ _ late))))
+          (λ late. faulty (ready-past-last sound (leb-false _ _ late)))
 
-  -- 6 exactly when the book is sound, the hours are in range and it has taken 512 orders
-  pub by-six : (decided book ready due ≡ wrong 6) ↔ (Sound book × (ready ≤ lastHour) × (due ≤ lastHour) × (book .taken ≡ mostOrders))
-  by-six = (
-    λ e.
-        let p = past-both (wrong 6) (λ d. omega (arith, same-wrong d)) (λ d. omega (arith, same-wrong d)) e in
-        let full = unmet-by (ltb (book .taken) mostOrders) 6 from-turn (λ d. omega (arith, turn-numbers 6 d)) (p .3) in
-        (p .0, p .1, p .2, omega (arith, p .0 .taken-most, ltb-false (book .taken) mostOrders full)),
-    λ p. past-hours (p .0) (p .1) (p .2) ∙ after-unmet 6 from-turn (le-ltb (book .taken) mostOrders (omega (arith, p .3))),
-  )
+  -- so it is refused exactly by its first fault
+  pub by-first-fault : (number : ℕ) → (decided book ready due ≡ wrong number) ↔ BookRefuses book ready due number
+  by-first-fault number = (λ e. ⊎-elim (its-own e) (λ admitted. absurd (never-right (sym e ∙ admitted-chosen admitted))) one-way, fault-given)
+    where
+      its-own : decided book ready due ≡ wrong number → Faulty → BookRefuses book ready due number
+      its-own e faulty = rw (same-wrong (sym (fault-given (faulty .fault)) ∙ e)) at (faulty .fault)
 
-  -- 5 exactly when nothing before it is wrong and ready is below the clock
-  pub by-five :
-      (decided book ready due ≡ wrong 5)
-      ↔ (Sound book × (ready ≤ lastHour) × (due ≤ lastHour) × (book .taken < mostOrders) × (ready < book .clock))
-  by-five = (
-    λ e.
-        let p = past-both (wrong 5) (λ d. omega (arith, same-wrong d)) (λ d. omega (arith, same-wrong d)) e in
-        let room = passed-by (ltb (book .taken) mostOrders) 6 from-turn (wrong 5) (λ d. omega (arith, same-wrong d)) (p .3) in
-        let early = unmet-by (leb (book .clock) ready) 5 chosen (λ d. never-right (sym d)) (room .1) in
-        (p .0, p .1, p .2, ltb-true _ _ (room .0), leb-false _ _ early),
-    λ p.
-        past-hours (p .0) (p .1) (p .2) ∙ after-met 6 from-turn (lt-ltb _ _ (p .3)) ∙ after-unmet 5 chosen (lt-leb _ _ (p .4)),
-  )
-
-  -- no other number is given
-  pub by-no-other : (number : ℕ) → decided book ready due ≡ wrong number → (number ≡ 8) ⊎ (number ≡ 4) ⊎ (number ≡ 6) ⊎ (number ≡ 5)
-  by-no-other number e =
-      by-test (isSound book)
-      (λ sound.
-      by-test (leb ready lastHour)
-      (λ one.
-      by-test (leb due lastHour)
-      (λ other. inr (inr (room-numbers number (sym (past-hours (sound-facts book sound) (leb-true _ _ one) (leb-true _ _ other)) ∙ e))))
-      (λ late. inr (inl (same-wrong (sym e ∙ past-sound (sound-facts book sound) ∙ after-met 4 from-due one ∙ after-unmet 4 from-room late)))))
-      (λ late. inr (inl (same-wrong (sym e ∙ past-sound (sound-facts book sound) ∙ after-unmet 4 from-due late)))))
-      (λ unsound. inl (same-wrong (sym e ∙ in-order ∙ after-unmet 8 from-ready unsound)))
-
-  -- an order is answered exactly when nothing is wrong, and then by the choice
+  -- and answered exactly when nothing is wrong, and then by the choice
   pub by-choice :
       (choice : Choice)
       → (decided book ready due ≡ right choice)
       ↔ (Admitted book ready due × (bestFit ready due (book .run) 1 (take (book .chambers) (book .free)) ≡ choice))
   by-choice choice = (
     λ e.
-        let p = past-both (right choice) never-right never-right e in
-        let room = passed-by (ltb (book .taken) mostOrders) 6 from-turn (right choice) never-right (p .3) in
-        let turn = passed-by (leb (book .clock) ready) 5 chosen (right choice) never-right (room .1) in (
-          record { sound = p .0; ready-most = p .1; due-most = p .2; room = ltb-true _ _ (room .0); in-turn = leb-true _ _ (turn .0) },
-          same-right (turn .1),
-        ),
-    λ p.
-        past-hours (p .0 .sound) (p .0 .ready-most) (p .0 .due-most)
-        ∙ after-met 6 from-turn (lt-ltb _ _ (p .0 .room))
-        ∙ after-met 5 chosen (le-leb _ _ (p .0 .in-turn))
-        ∙ ap right (p .1),
+        ⊎-elim (λ faulty. absurd (never-right (sym (fault-given (faulty .fault)) ∙ e)))
+        (λ admitted. (admitted, same-right (sym (admitted-chosen admitted) ∙ e))) one-way,
+    λ p. admitted-chosen (p .0) ∙ ap right (p .1),
   )
 
-  -- so no refusal has the number 0
+  -- the numbers that are given, and when each is
+  numbers : {number : ℕ} → BookRefuses book ready due number → (number ≡ 8) ⊎ (number ≡ 4) ⊎ (number ≡ 6) ⊎ (number ≡ 5)
+  numbers (not-sound unsound) = inl refl
+  numbers (ready-past-last sound late) = inr (inl refl)
+  numbers (due-past-last sound one late) = inr (inl refl)
+  numbers (book-full sound one other full) = inr (inr (inl refl))
+  numbers (below-clock sound one other room early) = inr (inr (inr refl))
+
+  eight : BookRefuses book ready due 8 → Sound book → ⊥
+  eight (not-sound unsound) = unsound
+
+  four : BookRefuses book ready due 4 → Sound book × ((ready ≤ 999_999) × (due ≤ 999_999) → ⊥)
+  four (ready-past-last sound late) = (sound, λ hours. omega arith)
+  four (due-past-last sound one late) = (sound, λ hours. omega arith)
+
+  six : BookRefuses book ready due 6 → Sound book × (ready ≤ 999_999) × (due ≤ 999_999) × (book .taken ≡ 512)
+  six (book-full sound one other full) = (sound, one, other, full)
+
+  five : BookRefuses book ready due 5 → Sound book × (ready ≤ 999_999) × (due ≤ 999_999) × (book .taken < 512) × (ready < book .clock)
+  five (below-clock sound one other room early) = (sound, one, other, room, early)
+
+  pub by-no-other : (number : ℕ) → decided book ready due ≡ wrong number → (number ≡ 8) ⊎ (number ≡ 4) ⊎ (number ≡ 6) ⊎ (number ≡ 5)
+  by-no-other number e = numbers (by-first-fault number .0 e)
+
+  pub by-eight : (decided book ready due ≡ wrong 8) ↔ (Sound book → ⊥)
+  by-eight = (λ e. eight (by-first-fault 8 .0 e), λ unsound. fault-given (not-sound unsound))
+
+  pub by-four : (decided book ready due ≡ wrong 4) ↔ (Sound book × ((ready ≤ 999_999) × (due ≤ 999_999) → ⊥))
+  by-four = (
+    λ e. four (by-first-fault 4 .0 e),
+    λ p.
+        by-test (leb ready 999_999)
+        (λ one. fault-given (due-past-last (p .0) (leb-true _ _ one) (leb-false _ _ (not-met (λ other. p .1 (leb-true _ _ one, leb-true _ _ other))))))
+        (λ late. fault-given (ready-past-last (p .0) (leb-false _ _ late))),
+  )
+
+  pub by-six : (decided book ready due ≡ wrong 6) ↔ (Sound book × (ready ≤ 999_999) × (due ≤ 999_999) × (book .taken ≡ 512))
+  by-six = (λ e. six (by-first-fault 6 .0 e), λ p. fault-given (book-full (p .0) (p .1) (p .2) (p .3)))
+
+  pub by-five :
+      (decided book ready due ≡ wrong 5) ↔ (Sound book × (ready ≤ 999_999) × (due ≤ 999_999) × (book .taken < 512) × (ready < book .clock))
+  by-five = (λ e. five (by-first-fault 5 .0 e), λ p. fault-given (below-clock (p .0) (p .1) (p .2) (p .3) (p .4)))
+
+  -- no refusal has the number 0
+  never-zero : BookRefuses book ready due 0 → ⊥
+  never-zero = elim [ ]
+
   pub never-by-none : decided book ready due ≡ wrong 0 → ⊥
-  never-by-none e = either (λ d. omega arith) (either (λ d. omega arith) (either (λ d. omega arith) (λ d. omega arith))) (by-no-other 0 e)
+  never-by-none e = never-zero (by-first-fault 0 .0 e)

@@ -1,4 +1,5 @@
--- What the functions behind the checks ask of their callers in this room, so that no sum wraps and every place lies in the array. No promise speaks of it. Assumes nothing.
+-- What the functions behind the checks ask of their callers in this room, so that no sum wraps and every place lies in the array. No
+-- promise speaks of it. Assumes nothing.
 use Prim.Native.Nat.{_+_, _≤_, _<_}
 use Rattle.ground.specs.Limits.{lastHour, mostChambers, mostOrders}
 use Rattle.book.specs.declared.Book.{Book}

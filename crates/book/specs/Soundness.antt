@@ -23,7 +23,8 @@ unfoldable pub allMet : List Bool → Bool
 allMet [] = true
 allMet (test ∷ tests) = test && allMet tests
 
--- "A book is sound when chambers are 1 to 8, run 1 to 9,999, clock and free hours at most 999,999, kept at most taken, taken at most 512, and chambers above the count have free hour 0."
+-- "A book is sound when chambers are 1 to 8, run 1 to 9,999, clock and free hours at most 999,999, kept at most taken, taken at most 512,
+-- and chambers above the count have free hour 0."
 unfoldable pub soundness : Book → List Bool
 soundness book =
     within 1 mostChambers (book .chambers)

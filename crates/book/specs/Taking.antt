@@ -28,7 +28,8 @@ decided book ready due = do
   check (leb (book .clock) ready) 5
   right (bestFit ready due (book .run) 1 (take (book .chambers) (book .free)))
 
--- "Its free hour becomes start plus run. Taken and kept each rise by 1 and the clock becomes r"; with a no "taken rises by 1, the clock becomes r, nothing else changes"; a refused order leaves the book
+-- "Its free hour becomes start plus run. Taken and kept each rise by 1 and the clock becomes r"; with a no "taken rises by 1, the clock
+-- becomes r, nothing else changes"; a refused order leaves the book
 abbrev pub nextBook : Book → ℕ → Read Choice → Book
 nextBook book ready (wrong number) = book
 nextBook book ready (right Nothing) =

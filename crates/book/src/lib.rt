@@ -4,7 +4,8 @@ ghost use mathlib.Core.Path.{_≡_};
 ghost use mathlib.Core.Bool.{_&&_};
 ghost use Prim.Native.Nat.{_<_};
 ghost use lib.ListN.{take, drop};
-ghost use Rattle.ground.specs.Limits.{mostOrders};
+ghost use Rattle.ground.specs.Limits.{lastHour, mostChambers, mostOrders};
+ghost use mathlib.Core.List.{[], _∷_};
 ghost use Rattle.ground.specs.Refusal.{right, numberOf};
 ghost use Rattle.book.specs.Soundness.{lastFreeHour, allUpTo, isSound, freshBook, opened};
 ghost use Rattle.choice.specs.BestFit.{bestFit};
@@ -72,6 +73,13 @@ impl Book {
     pub const ORDERS: u32 = ground::MOST_ORDERS;
 
     pub const LAST_HOUR: u32 = ground::LAST_HOUR;
+
+    // The three as numbers: a law can name what a function gives, and no constant.
+    fn limits() -> [u32; 3]
+        ensures { λ r. ⌜ r ≡ mostChambers ∷ mostOrders ∷ lastHour ∷ [] ⌝ }
+    {
+        [Book::CHAMBERS, Book::ORDERS, Book::LAST_HOUR]
+    }
 
     // A fresh book, or refusal 4 and a book with every field 0.
     pub fn open(chambers: u32, run: u32) -> Opened

@@ -4,7 +4,7 @@ use mathlib.Core.Path.{_≡_, refl}
 use mathlib.Core.List.{List, [], _∷_}
 use lib.ListN.{length, length-set}
 use native.Mathlib.Omega.{arith}
-use Rattle.book.specs.History.{Order}
+use Rattle.book.specs.History.{OrderHours}
 use Rattle.choice.specs.declared.Choice.{Choice}
 use Rattle.choice.specs.declared.Choice.the-variants.{Nothing, Chamber}
 use Rattle.bound.specs.Plans.{choiceOf, freeAfter, InTurn, KeepsTo}
@@ -24,7 +24,7 @@ gain m hold free (Chamber chamber start) place hour =
     window start hold hour * step m (above hour free) + ifOwn place (pre m m - pre m (above hour free))
 
 -- what it gains by all answers up to that to its own order
-unfoldable pub total : ℕ → ℕ → ℕ → List ℕ → List Order → ℕ → ℕ → ℕ
+unfoldable pub total : ℕ → ℕ → ℕ → List ℕ → List OrderHours → ℕ → ℕ → ℕ
 total m run hold free [] place hour = 0
 total m run hold free (order ∷ orders) zero hour = gain m hold free (choiceOf run free order) zero hour
 total m run hold free (order ∷ orders) (suc place) hour =
@@ -37,7 +37,7 @@ same-length hold free (Chamber chamber start) = length-set free (chamber - 1) (s
 
 -- no load of a list in turn starts before the clock
 clock-before :
-    (clock run : ℕ) (orders : List Order) (place hour : ℕ) → InTurn clock orders → KeepsTo run orders place hour → clock ≤ hour
+    (clock run : ℕ) (orders : List OrderHours) (place hour : ℕ) → InTurn clock orders → KeepsTo run orders place hour → clock ≤ hour
 unfolding InTurn KeepsTo
 clock-before clock run [] place hour turn keeps = absurd keeps
 clock-before clock run (order ∷ orders) zero hour turn keeps = omega arith
@@ -75,7 +75,7 @@ module _ (m run hold ready due hour : ℕ) (free : List ℕ) where
 
 -- from below: a load gains all that the sum of steps still lacks
 pub lower :
-    (m run hold clock : ℕ) (free : List ℕ) (orders : List Order) (place hour : ℕ) → length free ≡ m → InTurn clock orders
+    (m run hold clock : ℕ) (free : List ℕ) (orders : List OrderHours) (place hour : ℕ) → length free ≡ m → InTurn clock orders
     → KeepsTo run orders place hour → pre m m ≤ pre m (above hour free) + total m run hold free orders place hour
 unfolding InTurn KeepsTo total
 lower m run hold clock free [] place hour sized turn keeps = absurd keeps

@@ -2,7 +2,7 @@
 use Prim.Native.Nat.{ℕ, zero, suc}
 use mathlib.Core.Path.{ap}
 use mathlib.Core.List.{List, [], _∷_}
-use Rattle.book.specs.History.{Order}
+use Rattle.book.specs.History.{OrderHours}
 use Rattle.bound.specs.Plans.{Lengths, PlanLoad, KeepsTo, GoodLoad, Apart, ApartFrom, GoodPlan}
 
 -- a load by its numbers
@@ -42,7 +42,7 @@ apart-later lengths place chamber start (other ∷ loads) apart =
     apart-moved lengths place chamber start (other .order) (other .chamber) (other .start) (later loads) (apart .0)
     (apart-later lengths place chamber start loads (apart .1))
 
-module _ (chambers : ℕ) (lengths : Lengths) (order : Order) (orders : List Order) where
+module _ (chambers : ℕ) (lengths : Lengths) (order : OrderHours) (orders : List OrderHours) where
   -- a load stays good
   good-moved :
       (place chamber start : ℕ) (loads : List PlanLoad) → GoodLoad chambers (lengths .run) (order ∷ orders) (loadAt place chamber start)

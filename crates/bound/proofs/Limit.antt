@@ -4,7 +4,7 @@ use mathlib.Core.Path.{_≡_}
 use mathlib.Core.List.{List, [], _∷_, _++_}
 use lib.ListN.{length, replicate, length-replicate}
 use native.Mathlib.Omega.{arith}
-use Rattle.book.specs.History.{Order}
+use Rattle.book.specs.History.{OrderHours}
 use Rattle.bound.specs.Plans.{Lengths, keptOf, InTurn, PlanLoad, GoodPlan}
 use Rattle.bound.proofs.Weights.{pre, weight-pre, first-weight, last-weight}
 use Rattle.bound.proofs.Counting.{none-above}
@@ -18,7 +18,7 @@ all-steps m = omega (arith, weight-pre m m (omega arith), first-weight m, last-w
 
 -- from chambers that are free from hour 0 each load gains the sum of all steps
 each-gains :
-    (m : ℕ) (lengths : Lengths) (orders : List Order) (loads : List PlanLoad) → InTurn 0 orders → GoodPlan m lengths orders loads
+    (m : ℕ) (lengths : Lengths) (orders : List OrderHours) (loads : List PlanLoad) → InTurn 0 orders → GoodPlan m lengths orders loads
     → pre m m * length loads ≤ sum (totalOf m lengths (replicate m 0) orders) loads
 unfolding sum GoodPlan pre
 each-gains m lengths orders [] turn good = omega arith
@@ -33,7 +33,7 @@ each-gains m lengths orders (load ∷ loads) turn good =
 -- the limit: with m chambers, for Z loads of any good plan and A orders that the rule keeps, ((m + 1)^m − m^m) · Z ≤ (m + 1)^m · A.
 -- It asks nothing of m, run and hold: with no chamber no load is good, and hold and run are compared nowhere
 pub limit :
-    (m : ℕ) (lengths : Lengths) (orders : List Order) (loads : List PlanLoad) → InTurn 0 orders → GoodPlan m lengths orders loads
+    (m : ℕ) (lengths : Lengths) (orders : List OrderHours) (loads : List PlanLoad) → InTurn 0 orders → GoodPlan m lengths orders loads
     → ((m + 1) ^ m - m ^ m) * length loads ≤ (m + 1) ^ m * keptOf lengths (replicate m 0) orders
 limit m lengths orders loads turn good =
     let steps = all-steps m in
@@ -46,18 +46,18 @@ limit m lengths orders loads turn good =
 
 -- two chambers: at least 5 of 9
 pub limit-of-two :
-    (lengths : Lengths) (orders : List Order) (loads : List PlanLoad) → InTurn 0 orders → GoodPlan 2 lengths orders loads
+    (lengths : Lengths) (orders : List OrderHours) (loads : List PlanLoad) → InTurn 0 orders → GoodPlan 2 lengths orders loads
     → 5 * length loads ≤ 9 * keptOf lengths (replicate 2 0) orders
 limit-of-two lengths orders loads turn good = limit 2 lengths orders loads turn good
 
 -- the first orders of a list in turn are in turn
-front-in-turn : (clock : ℕ) (front rest : List Order) → InTurn clock (front ++ rest) → InTurn clock front
+front-in-turn : (clock : ℕ) (front rest : List OrderHours) → InTurn clock (front ++ rest) → InTurn clock front
 unfolding InTurn
 front-in-turn clock [] rest turn = tt
 front-in-turn clock (order ∷ front) rest turn = (turn .0, front-in-turn (order .ready) front rest (turn .1))
 
 -- the limit holds after every order, not only at the end: for the first orders of a list, and every good plan for them
 pub limit-at-front :
-    (m : ℕ) (lengths : Lengths) (front rest : List Order) (loads : List PlanLoad) → InTurn 0 (front ++ rest) → GoodPlan m lengths front loads
+    (m : ℕ) (lengths : Lengths) (front rest : List OrderHours) (loads : List PlanLoad) → InTurn 0 (front ++ rest) → GoodPlan m lengths front loads
     → ((m + 1) ^ m - m ^ m) * length loads ≤ (m + 1) ^ m * keptOf lengths (replicate m 0) front
 limit-at-front m lengths front rest loads turn good = limit m lengths front loads (front-in-turn 0 front rest turn) good

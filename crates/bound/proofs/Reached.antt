@@ -5,7 +5,7 @@ use mathlib.Core.List.{List, [], _∷_}
 use lib.ListN.{length, replicate}
 use native.Mathlib.Omega.{arith}
 use Rattle.choice.specs.BestFit.{offer, bestFit}
-use Rattle.book.specs.History.{Order}
+use Rattle.book.specs.History.{OrderHours}
 use Rattle.bound.specs.Plans.{Lengths, keptOf, InTurn, PlanLoad, KeepsTo, ApartFrom, GoodPlan}
 
 -- runs of three hours
@@ -13,7 +13,7 @@ abbrev pub threeHours : Lengths
 threeHours = record { run = 300; hold = 300 }
 
 -- an order with time, and a later one with none
-abbrev pub twoOrders : List Order
+abbrev pub twoOrders : List OrderHours
 twoOrders = record { ready = 0; due = 700 } ∷ record { ready = 100; due = 400 } ∷ []
 
 -- the second runs at once, and the first after it

@@ -8,7 +8,7 @@ use native.Mathlib.Nat.{mul-le-mul-left, mul-le-mul-right}
 use native.Mathlib.Omega.{arith}
 use borrow.Author.Tests.{leb-true, leb-false}
 use Rattle.ground.proofs.Tests.{by-test}
-use Rattle.book.specs.History.{Order}
+use Rattle.book.specs.History.{OrderHours}
 use Rattle.choice.specs.declared.Choice.{Choice}
 use Rattle.choice.specs.declared.Choice.the-variants.{Nothing, Chamber}
 use Rattle.bound.specs.Plans.{Lengths, choiceOf, freeAfter, keptBy, keptOf, PlanLoad, KeepsTo, GoodLoad, ApartFrom, GoodPlan}
@@ -24,7 +24,7 @@ abbrev gainOf : ℕ → ℕ → List ℕ → Choice → PlanLoad → ℕ
 gainOf m hold free choice load = gain m hold free choice (load .order) (load .start)
 
 -- what a load gains by all answers up to that to its own order
-abbrev pub totalOf : ℕ → Lengths → List ℕ → List Order → PlanLoad → ℕ
+abbrev pub totalOf : ℕ → Lengths → List ℕ → List OrderHours → PlanLoad → ℕ
 totalOf m lengths free orders load = total m (lengths .run) (lengths .hold) free orders (load .order) (load .start)
 
 -- what a load gains by its own order
@@ -32,7 +32,7 @@ abbrev ownOf : ℕ → List ℕ → PlanLoad → ℕ
 ownOf m free load = ifOwn (load .order) (pre m m - pre m (above (load .start) free))
 
 -- how many chambers do not fit an order
-abbrev unfitOf : ℕ → List ℕ → Order → ℕ
+abbrev unfitOf : ℕ → List ℕ → OrderHours → ℕ
 unfitOf run free order = unfit (order .ready) (order .due) run free
 
 -- a load of another order gains nothing by this one
@@ -59,7 +59,7 @@ unfolding sum
 no-gains m hold free [] = refl
 no-gains m hold free (load ∷ loads) = rw (no-gains m hold free loads) refl
 
-module _ (m : ℕ) (lengths : Lengths) (free : List ℕ) (order : Order) where
+module _ (m : ℕ) (lengths : Lengths) (free : List ℕ) (order : OrderHours) where
   -- the step of a window is at most that of the chambers that do not fit
   step-most :
       (chamber start hour : ℕ) → length free ≡ m → CountedYes (order .ready) (order .due) (lengths .run) 1 free chamber start
@@ -91,7 +91,7 @@ module _ (m : ℕ) (lengths : Lengths) (free : List ℕ) (order : Order) where
 
   -- one load's part of the next law
   own-step :
-      (orders : List Order) (place chamber start : ℕ) (loads : List PlanLoad) → GoodLoad m (lengths .run) (order ∷ orders) (loadAt place chamber start)
+      (orders : List OrderHours) (place chamber start : ℕ) (loads : List PlanLoad) → GoodLoad m (lengths .run) (order ∷ orders) (loadAt place chamber start)
       → ApartFrom lengths (loadAt place chamber start) loads
       → sum (ownOf m free) loads ≤ pre m m - pre m (unfitOf (lengths .run) free order)
       → ownOf m free (loadAt place chamber start) + sum (ownOf m free) loads ≤ pre m m - pre m (unfitOf (lengths .run) free order)
@@ -102,7 +102,7 @@ module _ (m : ℕ) (lengths : Lengths) (free : List ℕ) (order : Order) where
 
   -- one load at most gains by its own order
   own-most :
-      (orders : List Order) (loads : List PlanLoad) → GoodPlan m lengths (order ∷ orders) loads
+      (orders : List OrderHours) (loads : List PlanLoad) → GoodPlan m lengths (order ∷ orders) loads
       → sum (ownOf m free) loads ≤ pre m m - pre m (unfitOf (lengths .run) free order)
   unfolding sum GoodPlan
   own-most orders [] good = omega arith
@@ -123,7 +123,7 @@ module _ (m : ℕ) (lengths : Lengths) (free : List ℕ) (order : Order) where
 
   -- by one answer all loads gain at most the last weight if it is a yes, and nothing if it is a no
   one-answer :
-      (choice : Choice) (orders : List Order) (loads : List PlanLoad) → length free ≡ m → Counted (order .ready) (order .due) (lengths .run) 1 free choice
+      (choice : Choice) (orders : List OrderHours) (loads : List PlanLoad) → length free ≡ m → Counted (order .ready) (order .due) (lengths .run) 1 free choice
       → GoodPlan m lengths (order ∷ orders) loads → sum (gainOf m (lengths .hold) free choice) loads ≤ weight m m * keptBy choice
   one-answer Nothing orders loads sized known good = omega (arith, no-gains m (lengths .hold) free loads)
   one-answer (Chamber chamber start) orders loads sized known good =
@@ -135,7 +135,7 @@ module _ (m : ℕ) (lengths : Lengths) (free : List ℕ) (order : Order) where
 
   -- one load's part of the next law
   total-step :
-      (orders : List Order) (place chamber start : ℕ) (loads : List PlanLoad)
+      (orders : List OrderHours) (place chamber start : ℕ) (loads : List PlanLoad)
       → totalOf m lengths free (order ∷ orders) (loadAt place chamber start)
       + sum (totalOf m lengths (freeAfter (lengths .hold) free (choiceOf (lengths .run) free order)) orders) loads
       ≡ gainOf m (lengths .hold) free (choiceOf (lengths .run) free order) (loadAt place chamber start)
@@ -146,7 +146,7 @@ module _ (m : ℕ) (lengths : Lengths) (free : List ℕ) (order : Order) where
 
   -- all gains are those by the first answer and those of the later loads
   totals-parted :
-      (orders : List Order) (loads : List PlanLoad)
+      (orders : List OrderHours) (loads : List PlanLoad)
       → sum (totalOf m lengths free (order ∷ orders)) loads
       ≡ sum (gainOf m (lengths .hold) free (choiceOf (lengths .run) free order)) loads
       + sum (totalOf m lengths (freeAfter (lengths .hold) free (choiceOf (lengths .run) free order)) orders) (later loads)
@@ -165,7 +165,7 @@ no-totals m lengths free (load ∷ loads) = rw (no-totals m lengths free loads) 
 
 -- by all answers the loads of a good plan gain at most the last weight for each yes
 pub upper :
-    (m : ℕ) (lengths : Lengths) (free : List ℕ) (orders : List Order) (loads : List PlanLoad) → length free ≡ m → GoodPlan m lengths orders loads
+    (m : ℕ) (lengths : Lengths) (free : List ℕ) (orders : List OrderHours) (loads : List PlanLoad) → length free ≡ m → GoodPlan m lengths orders loads
     → sum (totalOf m lengths free orders) loads ≤ weight m m * keptOf lengths free orders
 unfolding keptOf
 upper m lengths free [] loads sized good = omega (arith, no-totals m lengths free loads)

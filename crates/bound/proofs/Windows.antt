@@ -7,7 +7,7 @@ use lib.Dec.{leb, eqb}
 use native.Mathlib.Omega.{arith}
 use borrow.Author.Tests.{leb-true, leb-false, eqb-true, eqb-false, le-leb, lt-leb, ne-eqb}
 use Rattle.ground.proofs.Tests.{by-test}
-use Rattle.book.specs.History.{Order}
+use Rattle.book.specs.History.{OrderHours}
 use Rattle.bound.specs.Plans.{Lengths, PlanLoad, ApartFrom, GoodPlan}
 use Rattle.bound.proofs.Counting.{window, window-most, window-from, window-until}
 
@@ -76,7 +76,7 @@ module _ (start : ℕ) (lengths : Lengths) where
 
   -- at most one load of a chamber starts in the window
   one-a-chamber :
-      (chamber chambers : ℕ) (orders : List Order) (loads : List PlanLoad) → GoodPlan chambers lengths orders loads
+      (chamber chambers : ℕ) (orders : List OrderHours) (loads : List PlanLoad) → GoodPlan chambers lengths orders loads
       → sum (inChamber chamber) loads ≤ 1
   unfolding sum GoodPlan inChamber
   one-a-chamber chamber chambers orders [] good = omega arith
@@ -94,7 +94,7 @@ module _ (start : ℕ) (lengths : Lengths) where
 
   -- no chamber has number 0
   none-in-none :
-      (chambers : ℕ) (orders : List Order) (loads : List PlanLoad) → GoodPlan chambers lengths orders loads → sum (inChambers 0) loads ≡ 0
+      (chambers : ℕ) (orders : List OrderHours) (loads : List PlanLoad) → GoodPlan chambers lengths orders loads → sum (inChambers 0) loads ≡ 0
   unfolding sum GoodPlan inChambers
   none-in-none chambers orders [] good = refl
   none-in-none chambers orders (load ∷ loads) good =
@@ -108,7 +108,7 @@ module _ (start : ℕ) (lengths : Lengths) where
 
   -- at most as many as there are chambers up to one
   some-chambers :
-      (chamber chambers : ℕ) (orders : List Order) (loads : List PlanLoad) → GoodPlan chambers lengths orders loads
+      (chamber chambers : ℕ) (orders : List OrderHours) (loads : List PlanLoad) → GoodPlan chambers lengths orders loads
       → sum (inChambers chamber) loads ≤ chamber
   some-chambers zero chambers orders loads good = omega (arith, none-in-none chambers orders loads good)
   some-chambers (suc chamber) chambers orders loads good =
@@ -121,7 +121,7 @@ module _ (start : ℕ) (lengths : Lengths) where
 
   -- every load is in one of the chambers
   all-chambers :
-      (chambers : ℕ) (orders : List Order) (loads : List PlanLoad) → GoodPlan chambers lengths orders loads
+      (chambers : ℕ) (orders : List OrderHours) (loads : List PlanLoad) → GoodPlan chambers lengths orders loads
       → sum (inChambers chambers) loads ≡ sum inWindow loads
   unfolding sum GoodPlan inChambers
   all-chambers chambers orders [] good = refl
@@ -130,6 +130,6 @@ module _ (start : ℕ) (lengths : Lengths) where
 
   -- at most as many loads as there are chambers start in the window
   pub few-in-window :
-      (chambers : ℕ) (orders : List Order) (loads : List PlanLoad) → GoodPlan chambers lengths orders loads → sum inWindow loads ≤ chambers
+      (chambers : ℕ) (orders : List OrderHours) (loads : List PlanLoad) → GoodPlan chambers lengths orders loads → sum inWindow loads ≤ chambers
   few-in-window chambers orders loads good =
       omega (arith, all-chambers chambers orders loads good, some-chambers chambers chambers orders loads good)

@@ -1,4 +1,5 @@
--- The BestFit rule with the paper's tie rule: "Among chambers that fit, take the one whose hour from step 1 is largest; if several are equal, the lowest number." Assumes nothing.
+-- The BestFit rule with the paper's tie rule: "Among chambers that fit, take the one whose hour from step 1 is largest; if several are
+-- equal, the lowest number." Assumes nothing.
 use Prim.Native.Nat.{ℕ, suc, _+_, max}
 use mathlib.Core.Bool.{Bool, cond}
 use mathlib.Core.List.{List, [], _∷_}
@@ -22,7 +23,8 @@ offer ready due run chamber free = cond (fits run due (lifted ready free)) (Cham
 abbrev pub better : Choice → Choice → Choice
 better Nothing other = other
 better (Chamber chamber start) Nothing = Chamber chamber start
-better (Chamber chamber start) (Chamber other-chamber other-start) = cond (ltb start other-start) (Chamber other-chamber other-start) (Chamber chamber start)
+better (Chamber chamber start) (Chamber other-chamber other-start) =
+    cond (ltb start other-start) (Chamber other-chamber other-start) (Chamber chamber start)
 
 -- the choice among chambers, counted from a number on
 unfoldable pub bestFit : ℕ → ℕ → ℕ → ℕ → List ℕ → Choice

@@ -12,7 +12,7 @@ use Rattle.book.specs.Taking.{hold, decided, nextBook, answerOf}
 use Rattle.book.specs.declared.Book.{Book}
 use Rattle.choice.specs.declared.Choice.{Choice}
 use Rattle.choice.specs.declared.Choice.the-variants.{Nothing, Chamber}
-use Rattle.book.proofs.Choices.{Chosen, chosen}
+use Rattle.choice.proofs.Fitting.{Chosen, chosen}
 use Rattle.book.proofs.Deciding.{passed}
 use Rattle.orders.specs.Answers.{answersFrom, refusalsIn, refusals, yesesIn, yeses}
 use Rattle.bound.specs.Plans.{choiceOf, freeAfter, keptBy, keptOf}

@@ -6,13 +6,13 @@ use Rattle.ground.specs.Limits.{firstOrderLine}
 use Rattle.lines.specs.declared.Heading.{Heading}
 use Rattle.lines.specs.declared.Order as lines
 use Rattle.lines.specs.declared.Load.{Load}
-use Rattle.book.specs.History.{Order}
+use Rattle.book.specs.History.{OrderHours}
 use Rattle.book.specs.Taking.{hold}
 use Rattle.book.specs.declared.Book.{Book}
 use Rattle.bound.specs.Plans.{Lengths, PlanLoad}
 
 -- the ready and the due hour of an order
-abbrev pub asOrder : lines.Order → Order
+abbrev pub asOrder : lines.Order → OrderHours
 asOrder order = record { ready = order .ready; due = order .due }
 
 -- a load, with the place of its order in the list instead of the line

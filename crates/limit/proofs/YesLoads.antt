@@ -68,7 +68,7 @@ module _ (line : ℕ) (book : Book) (sized : Sized book) (order : Order) (orders
   -- a yes is to a chamber that has a free hour
   housed : (chamber start : ℕ) → Decided (right (Chamber chamber start)) → chamber - 1 < length (book .free)
   housed chamber start decision =
-      let known = yes-exactly book (order .ready) (order .due) sized chamber start .0 decision in
+      let known = yes-exactly book (order .ready) (order .due) chamber start .0 decision in
       omega (arith, known .1 .fitting .numbered, known .0 .sound .chambers-range)
 
   -- no free hour falls
@@ -79,7 +79,7 @@ module _ (line : ℕ) (book : Book) (sized : Sized book) (order : Order) (orders
       by-test (eqb place (chamber - 1))
       (λ same.
       rw (eqb-true place (chamber - 1) same, getD-set-same (book .free) (chamber - 1) (start + hold book) 0 (housed chamber start decision))
-      (omega (arith, yes-exactly book (order .ready) (order .due) sized chamber start .0 decision .1 .started)))
+      (omega (arith, yes-exactly book (order .ready) (order .due) chamber start .0 decision .1 .started)))
       (λ other. rw (getD-set-other (book .free) (chamber - 1) place (start + hold book) 0 (eqb-false place (chamber - 1) other)) (omega arith))
 
   -- the number of chambers and the run stay
@@ -110,7 +110,7 @@ module _ (line : ℕ) (book : Book) (sized : Sized book) (order : Order) (orders
       (chamber start : ℕ) → Decided (right (Chamber chamber start))
       → Given line book (order ∷ orders) (record { order = line; chamber = chamber; start = start })
   given-now chamber start decision =
-      let known = yes-exactly book (order .ready) (order .due) sized chamber start .0 decision in
+      let known = yes-exactly book (order .ready) (order .due) chamber start .0 decision in
       let best = known .1 in
       record {
         front = [];

@@ -1,20 +1,19 @@
--- The computed choice is the one that the rule describes: a chamber fits best exactly where it is chosen, and none fits exactly where nothing is. Assumes nothing.
+-- The computed choice is the one that the rule describes: a chamber fits best exactly where it is chosen, and none fits exactly where
+-- nothing is. Assumes nothing.
 use Prim.Native.Nat.{ℕ, suc, _+_, _-_, max, _≤_, _<_}
 use mathlib.Core.Path.{_≡_, refl, sym}
 use mathlib.Core.List.{List, [], _∷_}
 use mathlib.Core.Logic.{_↔_}
-use lib.ListN.{length, getD, take}
-use lib.Seq.{getD-take, length-take-le}
+use lib.ListN.{length, getD, take, length-take}
+use lib.Seq.{getD-take, take-length}
 use lib.Dec.{leb, ltb}
 use native.Mathlib.Omega.{arith}
 use borrow.Author.Tests.{ltb-true, ltb-false, leb-true, leb-false}
-use Rattle.ground.specs.Limits.{mostChambers}
 use Rattle.ground.proofs.Tests.{by-test}
 use Rattle.choice.specs.BestFit.{lifted, offer, better, bestFit}
-use Rattle.book.specs.Meaning.{Sized, hourFor, Fits, BestFitting, NoneFits}
-use Rattle.book.specs.declared.Book.{Book}
+use Rattle.choice.specs.Meaning.{hourFor, Fits, BestFitting, NoneFits, RightChoice}
 use Rattle.choice.specs.declared.Choice.{Choice}
 use Rattle.choice.specs.declared.Choice.the-variants.{Nothing, Chamber}
 
 -- a chamber that fits, among those numbered from one number on and before another
 record FitsAmong (hour : ℕ → ℕ) (due run first past chamber : ℕ) : Type 0 where
@@ -129,6 +128,67 @@ right-best hour ready due run first (free ∷ hours) known =
     further : (at : ℕ) → at < length hours → lifted ready (getD hours at 0) ≡ hour (suc first + at)
     further at inside = let moved : first + suc at ≡ suc first + at = omega arith in rw moved at (known (suc at) (omega arith))
 
+-- Any chambers: the choice is made among the first of them, as many as the count says.
+module _ (ready due run : ℕ) (hours : List ℕ) (count : ℕ) where
+  -- how many there are
+  looked-at : length (take count hours) ≤ count
+  looked-at = simp length-take (omega arith)
+
+  -- to fit is to fit among them
+  fits-among :
+      (chamber : ℕ) → Fits ready due run hours count chamber → FitsAmong (hourFor hours ready) due run 1 (1 + length (take count hours)) chamber
+  fits-among chamber fitting =
+      record {
+        least = fitting .numbered .0;
+        before = simp length-take (omega (arith, fitting .numbered .1, fitting .listed));
+        in-time = fitting .in-time;
+      }
+
+  -- and back
+  among-fits :
+      (chamber : ℕ) → FitsAmong (hourFor hours ready) due run 1 (1 + length (take count hours)) chamber → Fits ready due run hours count chamber
+  among-fits chamber fitting =
+      let most = simp length-take at (fitting .before) in
+      record { numbered = (fitting .least, omega (arith, most)); listed = omega (arith, most); in-time = fitting .in-time }
+
+  -- a right choice among them is right
+  among-right : (choice : Choice) → RightAmong (hourFor hours ready) due run 1 (1 + length (take count hours)) choice → RightChoice ready due run hours count choice
+  among-right Nothing right = λ chamber fitting. right chamber (fits-among chamber fitting)
+  among-right (Chamber chamber start) right =
+      record {
+        fitting = among-fits chamber (right .fitting);
+        started = right .started;
+        largest = λ other fitting. right .largest other (fits-among other fitting);
+        lowest = λ other fitting. right .lowest other (fits-among other fitting);
+      }
+
+  listed-hours : (at : ℕ) → at < length (take count hours) → lifted ready (getD (take count hours) at 0) ≡ hourFor hours ready (1 + at)
+  listed-hours at inside =
+      let moved : (1 + at) - 1 ≡ at = omega arith in rw (getD-take count hours at 0 (omega (arith, looked-at)), moved)
+
+  -- so the computed choice is right
+  pub best-right : RightChoice ready due run hours count (bestFit ready due run 1 (take count hours))
+  best-right =
+      among-right (bestFit ready due run 1 (take count hours)) (right-best (hourFor hours ready) ready due run 1 (take count hours) listed-hours)
+
+  -- and one choice is right
+  pub right-only : (one other : Choice) → RightChoice ready due run hours count one → RightChoice ready due run hours count other → one ≡ other
+  right-only Nothing Nothing none best = refl
+  right-only Nothing (Chamber chamber start) none best = absurd (none chamber (best .fitting))
+  right-only (Chamber chamber start) Nothing best none = absurd (none chamber (best .fitting))
+  right-only (Chamber chamber start) (Chamber other-chamber other-start) best other =
+      let least : start ≤ other-start = omega (arith, best .started, other .largest chamber (best .fitting)) in
+      let most : other-start ≤ start = omega (arith, other .started, best .largest other-chamber (other .fitting)) in
+      let same : start ≡ other-start = omega arith in
+      let low : chamber ≤ other-chamber = best .lowest other-chamber (other .fitting) (omega (arith, other .started)) in
+      let high : other-chamber ≤ chamber = other .lowest chamber (best .fitting) (omega (arith, best .started)) in
+      let alike : chamber ≡ other-chamber = omega arith in
+      rw (same, alike)
+
+  -- so a choice is what the rule describes exactly where it is the computed one
+  pub right-exactly : (choice : Choice) → (bestFit ready due run 1 (take count hours) ≡ choice) ↔ RightChoice ready due run hours count choice
+  right-exactly choice = (λ chosen. rw chosen at best-right, λ right. right-only (bestFit ready due run 1 (take count hours)) choice best-right right)
+
 -- a chosen chamber is one of those listed, and its load ends in time
 pub record Listed (due run : ℕ) (hours : List ℕ) (chamber start : ℕ) : Type 0 where
   pub least : 1 ≤ chamber
@@ -139,125 +199,12 @@ abbrev pub Chosen : ℕ → ℕ → List ℕ → Choice → Type 0
 Chosen due run hours Nothing = Unit {0}
 Chosen due run hours (Chamber chamber start) = Listed due run hours chamber start
 
-module _ (ready due run : ℕ) (hours : List ℕ) where
-  abbrev hour-listed : ℕ → ℕ
-  hour-listed chamber = lifted ready (getD hours (chamber - 1) 0)
-
-  right-chosen : (choice : Choice) → RightAmong hour-listed due run 1 (1 + length hours) choice → Chosen due run hours choice
-  right-chosen Nothing right = tt
-  right-chosen (Chamber chamber start) right =
-      record {
-        least = right .fitting .least;
-        most = omega (arith, right .fitting .before);
-        in-time = omega (arith, right .started, right .fitting .in-time);
-      }
-
-  pub chosen : Chosen due run hours (bestFit ready due run 1 hours)
-  chosen =
-      right-chosen (bestFit ready due run 1 hours)
-      (right-best hour-listed ready due run 1 hours (λ at inside. let moved : (1 + at) - 1 ≡ at = omega arith in rw moved refl))
-
-module _ (hour : ℕ → ℕ) (due run first past : ℕ) where
-  -- there is one best
-  one-best :
-      (chamber start other-chamber other-start : ℕ) → BestAmong hour due run first past chamber start
-      → BestAmong hour due run first past other-chamber other-start → (chamber ≡ other-chamber) × (start ≡ other-start)
-  one-best chamber start other-chamber other-start best other =
-      let least : start ≤ other-start = omega (arith, other .largest chamber (best .fitting)) in
-      let most : other-start ≤ start = omega (arith, best .largest other-chamber (other .fitting)) in
-      let low : chamber ≤ other-chamber = best .lowest other-chamber (other .fitting) (omega arith) in
-      let high : other-chamber ≤ chamber = other .lowest chamber (best .fitting) (omega arith) in
-      (omega arith, omega arith)
-
-  -- a right choice is the chamber that fits best, if one does
-  right-chamber :
-      (choice : Choice) → RightAmong hour due run first past choice → (chamber start : ℕ) → BestAmong hour due run first past chamber start
-      → choice ≡ Chamber chamber start
-  right-chamber Nothing right chamber start best = absurd (right chamber (best .fitting))
-  right-chamber (Chamber other-chamber other-start) right chamber start best =
-      let same = one-best other-chamber other-start chamber start right best in rw (same .0, same .1)
-
-  -- a right choice is nothing, if none fits
-  right-nothing :
-      (choice : Choice) → RightAmong hour due run first past choice → ((chamber : ℕ) → FitsAmong hour due run first past chamber → ⊥) → choice ≡ Nothing
-  right-nothing Nothing right none = refl
-  right-nothing (Chamber chamber start) right none = absurd (none chamber (right .fitting))
-
-module _ (book : Book) (ready due : ℕ) where
-  -- to fit in the book is to fit among its chambers
-  fits-among : (chamber : ℕ) → Fits book ready due chamber → FitsAmong (hourFor book ready) due (book .run) 1 (1 + book .chambers) chamber
-  fits-among chamber fitting = record { least = fitting .numbered .0; before = omega arith; in-time = fitting .in-time }
-
-  -- and back
-  among-fits : (chamber : ℕ) → FitsAmong (hourFor book ready) due (book .run) 1 (1 + book .chambers) chamber → Fits book ready due chamber
-  among-fits chamber fitting = record { numbered = (fitting .least, omega arith); in-time = fitting .in-time }
-
-  -- to fit best in the book is to be the best among its chambers
-  best-among :
-      (chamber start : ℕ) → BestFitting book ready due chamber start
-      → BestAmong (hourFor book ready) due (book .run) 1 (1 + book .chambers) chamber start
-  best-among chamber start best =
-      record {
-        fitting = fits-among chamber (best .fitting);
-        started = best .started;
-        largest = λ other fitting. best .largest other (among-fits other fitting);
-        lowest = λ other fitting. best .lowest other (among-fits other fitting);
-      }
-
-  -- and back
-  among-best :
-      (chamber start : ℕ) → BestAmong (hourFor book ready) due (book .run) 1 (1 + book .chambers) chamber start
-      → BestFitting book ready due chamber start
-  among-best chamber start best =
-      record {
-        fitting = among-fits chamber (best .fitting);
-        started = best .started;
-        largest = λ other fitting. best .largest other (fits-among other fitting);
-        lowest = λ other fitting. best .lowest other (fits-among other fitting);
-      }
-
-  -- the listed hours are those of the book's chambers
-  listed-hours :
-      (at : ℕ) → at < book .chambers → lifted ready (getD (take (book .chambers) (book .free)) at 0) ≡ hourFor book ready (1 + at)
-  listed-hours at inside =
-      let moved : (1 + at) - 1 ≡ at = omega arith in rw (getD-take (book .chambers) (book .free) at 0 inside, moved)
-
-  -- the book's choice is right
-  right-in-book :
-      Sized book → book .chambers ≤ mostChambers
-      → RightAmong (hourFor book ready) due (book .run) 1 (1 + book .chambers) (bestFit ready due (book .run) 1 (take (book .chambers) (book .free)))
-  right-in-book sized few =
-      let listed : length (take (book .chambers) (book .free)) ≡ book .chambers = length-take-le (book .chambers) (book .free) (omega arith) in
-      rw listed at (right-best (hourFor book ready) ready due (book .run) 1 (take (book .chambers) (book .free)) (λ at inside. listed-hours at (omega arith)))
-
--- a chamber and its start are chosen exactly where they fit best
-pub best-exactly :
-    (book : Book) (ready due chamber start : ℕ) → Sized book → book .chambers ≤ mostChambers
-    → (bestFit ready due (book .run) 1 (take (book .chambers) (book .free)) ≡ Chamber chamber start) ↔ BestFitting book ready due chamber start
-best-exactly book ready due chamber start sized few =
-    let right = right-in-book book ready due sized few in (
-      λ chosen. among-best book ready due chamber start (rw chosen at right),
-      λ best.
-          right-chamber (hourFor book ready) due (book .run) 1 (1 + book .chambers) (bestFit ready due (book .run) 1 (take (book .chambers) (book .free))) right
-          chamber start (best-among book ready due chamber start best),
-    )
-
--- nothing is chosen exactly where none fits
-pub none-exactly :
-    (book : Book) (ready due : ℕ) → Sized book → book .chambers ≤ mostChambers
-    → (bestFit ready due (book .run) 1 (take (book .chambers) (book .free)) ≡ Nothing) ↔ NoneFits book ready due
-none-exactly book ready due sized few =
-    let right = right-in-book book ready due sized few in (
-      λ nothing chamber fitting. (rw nothing at right) chamber (fits-among book ready due chamber fitting),
-      λ none.
-          right-nothing (hourFor book ready) due (book .run) 1 (1 + book .chambers) (bestFit ready due (book .run) 1 (take (book .chambers) (book .free))) right
-          (λ chamber fitting. none chamber (among-fits book ready due chamber fitting)),
-    )
-
--- one chamber and one start fit best
-pub best-only :
-    (book : Book) (ready due chamber start other-chamber other-start : ℕ) → BestFitting book ready due chamber start
-    → BestFitting book ready due other-chamber other-start → (chamber ≡ other-chamber) × (start ≡ other-start)
-best-only book ready due chamber start other-chamber other-start best other =
-    one-best (hourFor book ready) due (book .run) 1 (1 + book .chambers) chamber start other-chamber other-start
-    (best-among book ready due chamber start best) (best-among book ready due other-chamber other-start other)
+pub chosen : (ready due run : ℕ) (hours : List ℕ) → Chosen due run hours (bestFit ready due run 1 hours)
+chosen ready due run hours =
+    listed (bestFit ready due run 1 hours)
+    (rw (take-length hours) at (best-right ready due run hours (length hours)))
+  where
+    listed : (choice : Choice) → RightChoice ready due run hours (length hours) choice → Chosen due run hours choice
+    listed Nothing none = tt
+    listed (Chamber chamber start) best =
+        record { least = best .fitting .numbered .0; most = best .fitting .listed; in-time = omega (arith, best .started, best .fitting .in-time) }
