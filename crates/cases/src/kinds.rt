@@ -12,11 +12,11 @@ use crate::writing_cases;
 use fields::same_bytes;
 
 // The first words of the kinds. A kind is numbered by its place here.
-const NAMES: [u8; 81] =
-    *b"hour number lines heading order desk load checker write-hour write-load open take";
+const NAMES: [u8; 91] =
+    *b"hour number lines heading order desk walk load line checker write-hour write-load open take";
 
 // The words behind the first, for each kind: n is a number, t a text. A kind has its numbers before its texts.
-const SHAPES: [u8; 44] = *b"t t t t t t nt tt nn nnnn nn nnnnnnnnnnnnnnn";
+const SHAPES: [u8; 49] = *b"t t t t t t t nt nt tt nn nnnn nn nnnnnnnnnnnnnnn";
 
 const HOUR: usize = 0;
 
@@ -30,16 +30,20 @@ const ORDER: usize = 4;
 
 const DESK: usize = 5;
 
-const LOAD: usize = 6;
+const WALK: usize = 6;
 
-const WRITE_HOUR: usize = 8;
+const LOAD: usize = 7;
 
-const WRITE_LOAD: usize = 9;
+const LINE: usize = 8;
 
-const OPEN: usize = 10;
+const WRITE_HOUR: usize = 10;
+
+const WRITE_LOAD: usize = 11;
+
+const OPEN: usize = 12;
 
 // How many kinds there are.
-const KINDS: usize = 12;
+const KINDS: usize = 14;
 
 // The kind of this name among some; their number where there is none.
 fn kind_of(name: &[u8], names: &[u8]) -> usize {
@@ -110,7 +114,9 @@ fn answer_text(kind: usize, line: &[u8], text: &[u8], number: u32) {
         HEADING => reading_cases::heading(text),
         ORDER => reading_cases::order(text),
         DESK => program_cases::desk(text),
+        WALK => reading_cases::walk(text),
         LOAD => reading_cases::load(text, number),
+        LINE => reading_cases::line(text, number as usize),
         _ => program_cases::checker(words::word_at(line, 1), text),
     }
 }

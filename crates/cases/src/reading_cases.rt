@@ -48,22 +48,49 @@ pub(crate) fn load(line: &[u8], count: u32) {
     }
 }
 
-// The number of lines, and each line.
+// The number of lines, and each line, as a walk from the top hands them out.
 pub(crate) fn lines(text: &[u8]) {
-    results::number(line_count(text));
-    let mut at: usize = 0;
-    while at < text.len() {
-        results::text(texts::line_at(text, at));
-        at = texts::line_end(text, at);
+    let walked = walked_from_top(text);
+    results::number(walked.count);
+    let mut at = texts::walk_start(text);
+    loop {
+        let line = texts::walked_line(text, at);
+        if line.len() == 0 {
+            return;
+        }
+        results::text(line);
+        at = texts::walked_place(text, at);
     }
 }
 
-fn line_count(text: &[u8]) -> u64 {
+// The number of lines alone, and the place of the walk when none is left.
+pub(crate) fn walk(text: &[u8]) {
+    let walked = walked_from_top(text);
+    results::number(walked.count);
+    results::number(walked.at as u64);
+}
+
+// The line that a walk with this place hands out, and its place then.
+pub(crate) fn line(text: &[u8], at: usize) {
+    results::text(texts::walked_line(text, at));
+    results::number(texts::walked_place(text, at) as u64);
+}
+
+// How many lines a walk has handed out, and its place.
+struct Walked {
+    count: u64,
+    at: usize,
+}
+
+fn walked_from_top(text: &[u8]) -> Walked {
     let mut count: u64 = 0;
-    let mut at: usize = 0;
-    while at < text.len() {
-        at = texts::line_end(text, at);
+    let mut at = texts::walk_start(text);
+    loop {
+        let line = texts::walked_line(text, at);
+        if line.len() == 0 {
+            return Walked { count, at };
+        }
+        at = texts::walked_place(text, at);
         count += 1;
     }
-    count
 }

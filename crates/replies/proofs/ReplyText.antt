@@ -4,14 +4,16 @@ use mathlib.Core.Path.{_≡_, refl}
 use mathlib.Core.Bool.{true, not, _&&_}
 use mathlib.Core.List.{List, [], _∷_, _++_}
 use lib.Dec.{eqb}
+use borrow.Author.Tests.{eqb-false, not-true}
 use Rattle.ground.specs.Refusal.{Read, wrong, right}
 use Rattle.ground.specs.Text.{bytes}
 use Rattle.ground.proofs.Tests.{both, first-of, second-of}
 use Rattle.texts.specs.Lines.{lineEnd, linesOf}
 use Rattle.fields.specs.Fields.{tab}
-use Rattle.texts.specs.Meaning.{isUnbroken, AreLines, none, more}
+use Rattle.texts.specs.Meaning.{Unbroken, AreLines, none, more}
 use Rattle.fields.specs.Meaning.{isClean, allClean, tabbed}
 use Rattle.planlines.proofs.RoundTrip.{clean-number, clean-hour}
+use Rattle.texts.proofs.WholeText.{unbroken-append}
 use Rattle.texts.proofs.Promises.{lines-only}
 use Rattle.book.specs.declared.Book.{Book}
 use Rattle.book.specs.declared.Answer.{Answer}
@@ -20,27 +22,22 @@ use Rattle.orders.specs.Answers.{opening, orderLines, answersFrom, refusedLine}
 use Rattle.replies.specs.Replies.{lineWith, answerFields, replyLine, sumLine, numbered, repliesFrom, repliesBy, replyOf}
 
 -- a clean text has no line end in it, and neither have clean fields with tabs between
-clean-unbroken : (text : List ℕ) → isClean text ≡ true → isUnbroken text ≡ true
-unfolding isClean isUnbroken
-clean-unbroken [] clean = refl
+clean-unbroken : (text : List ℕ) → isClean text ≡ true → Unbroken text
+unfolding isClean Unbroken
+clean-unbroken [] clean = tt
 clean-unbroken (byte ∷ text) clean =
-    let here = first-of (not (eqb byte tab) && not (eqb byte lineEnd)) (isClean text) clean in
-    both (second-of (not (eqb byte tab)) (not (eqb byte lineEnd)) here)
-    (clean-unbroken text (second-of (not (eqb byte tab) && not (eqb byte lineEnd)) (isClean text) clean))
+    let here = first-of (not (eqb byte tab) && not (eqb byte lineEnd)) (isClean text) clean in (
+      eqb-false byte lineEnd (not-true (eqb byte lineEnd) (second-of (not (eqb byte tab)) (not (eqb byte lineEnd)) here)),
+      clean-unbroken text (second-of (not (eqb byte tab) && not (eqb byte lineEnd)) (isClean text) clean),
+    )
 
-unbroken-append : (one other : List ℕ) → isUnbroken one ≡ true → isUnbroken other ≡ true → isUnbroken (one ++ other) ≡ true
-unfolding isUnbroken
-unbroken-append [] other first second = second
-unbroken-append (byte ∷ one) other first second =
-    both (first-of (not (eqb byte lineEnd)) (isUnbroken one) first) (unbroken-append one other (second-of (not (eqb byte lineEnd)) (isUnbroken one) first) second)
-
-tabbed-unbroken : (fields : List (List ℕ)) → allClean fields ≡ true → isUnbroken (tabbed fields) ≡ true
-unfolding tabbed allClean isUnbroken
-tabbed-unbroken [] clean = refl
+tabbed-unbroken : (fields : List (List ℕ)) → allClean fields ≡ true → Unbroken (tabbed fields)
+unfolding tabbed allClean Unbroken
+tabbed-unbroken [] clean = tt
 tabbed-unbroken (field ∷ []) clean = clean-unbroken field (first-of (isClean field) true clean)
 tabbed-unbroken (field ∷ next ∷ fields) clean =
     unbroken-append field (tab ∷ tabbed (next ∷ fields)) (clean-unbroken field (first-of (isClean field) (allClean (next ∷ fields)) clean))
-    (both refl (tabbed-unbroken (next ∷ fields) (second-of (isClean field) (allClean (next ∷ fields)) clean)))
+    (eqb-false tab lineEnd refl, tabbed-unbroken (next ∷ fields) (second-of (isClean field) (allClean (next ∷ fields)) clean))
 
 -- so each reply is a line
 line-with : (fields : List (List ℕ)) {lines : List (List ℕ)} → allClean fields ≡ true → AreLines lines → AreLines (lineWith fields ∷ lines)

@@ -1,17 +1,22 @@
--- The lines of a text are all of it, each in its turn, and a walk hands out just these. Assumes nothing.
-use Prim.Native.Nat.{ℕ, suc, _-_, _≤_, _<_}
-use mathlib.Core.Path.{_≡_, refl}
-use mathlib.Core.Bool.{true, false, not}
+-- The lines of a text are all of it, each in its turn, and the line at a place is the first of what stands there. Assumes nothing.
+use Prim.Native.Nat.{ℕ, suc, _+_, _-_, _≤_, _<_}
+use mathlib.Core.Path.{_≡_, refl, _∙_, ap}
 use mathlib.Core.List.{List, [], _∷_, _++_, append-nil}
 use lib.ListN.{length, getD, take, drop, length-take, drop-of-length-le}
-use lib.Seq.{drop-cons, drop-drop}
-use lib.Dec.{eqb}
+use lib.Seq.{drop-cons, drop-drop, take-length, take-append-seam}
+use lib.Dec.{leb, eqb}
 use native.Mathlib.Omega.{arith}
-use borrow.Author.Tests.{eqb-true, not-true}
-use Rattle.ground.proofs.Tests.{by-test, first-of, second-of}
+use borrow.Author.Tests.{leb-true, leb-false, eqb-true, eqb-false, ne-eqb}
+use Rattle.ground.proofs.Tests.{by-test}
 use Rattle.texts.specs.Lines.{lineEnd, before, linesOf, lineLength, lineAt, pastLine}
-use Rattle.texts.specs.Meaning.{isUnbroken, joined, AreLines, none, unended, more}
+use Rattle.texts.specs.Meaning.{Unbroken, joined, AreLines, none, unended, more, FirstLine, ended, all-left}
 use Rattle.texts.proofs.Lines.{past-none, line-is, past-is, not-beyond}
+
+-- texts without byte 10 have none one behind the other
+pub unbroken-append : (one other : List ℕ) → Unbroken one → Unbroken other → Unbroken (one ++ other)
+unfolding Unbroken
+unbroken-append [] other first second = second
+unbroken-append (byte ∷ one) other first second = (first .0, unbroken-append one other (first .1) second)
 
 -- the lines joined are the text
 joined-before : (byte : ℕ) (lines : List (List ℕ)) → joined (before byte lines) ≡ byte ∷ joined lines
@@ -26,45 +31,65 @@ lines-joined (byte ∷ rest) =
     by-test (eqb byte lineEnd) (λ same. rw (same, lines-joined rest)) (λ other. rw (other, joined-before byte (linesOf rest), lines-joined rest))
 
 -- every line but a last unended one ends with byte 10 and holds no other
-before-lines : (byte : ℕ) {lines : List (List ℕ)} → eqb byte lineEnd ≡ false → AreLines lines → AreLines (before byte lines)
-unfolding isUnbroken
-before-lines byte other none = unended (byte ∷ []) (omega arith) (rw other)
-before-lines byte other (unended line some unbroken) = unended (byte ∷ line) (omega arith) (rw other unbroken)
-before-lines byte other (more body lines unbroken are) = more (byte ∷ body) lines (rw other unbroken) are
+before-lines : (byte : ℕ) {lines : List (List ℕ)} → (byte ≡ 10 → ⊥) → AreLines lines → AreLines (before byte lines)
+unfolding Unbroken
+before-lines byte other none = unended (byte ∷ []) (omega arith) (other, tt)
+before-lines byte other (unended line some unbroken) = unended (byte ∷ line) (omega arith) (other, unbroken)
+before-lines byte other (more body lines unbroken are) = more (byte ∷ body) lines (other, unbroken) are
 
 pub lines-are : (text : List ℕ) → AreLines (linesOf text)
-unfolding linesOf isUnbroken
+unfolding linesOf Unbroken
 lines-are [] = none
 lines-are (byte ∷ rest) =
-    by-test (eqb byte lineEnd)
-    (λ same. let here : byte ≡ lineEnd = eqb-true _ _ same in rw here (more [] (linesOf rest) refl (lines-are rest)))
-    (λ other. rw other (before-lines byte other (lines-are rest)))
+    by-test (eqb byte lineEnd) (λ same. let here : byte ≡ 10 = eqb-true _ _ same in rw here (more [] (linesOf rest) tt (lines-are rest)))
+    (λ other. rw other (before-lines byte (eqb-false _ _ other) (lines-are rest)))
 
 -- and there is no other way to cut the text so
-lines-of-unended : (line : List ℕ) → 1 ≤ length line → isUnbroken line ≡ true → linesOf line ≡ line ∷ []
-unfolding linesOf isUnbroken
+lines-of-unended : (line : List ℕ) → 1 ≤ length line → Unbroken line → linesOf line ≡ line ∷ []
+unfolding linesOf Unbroken
 lines-of-unended [] some unbroken = absurd (omega arith)
-lines-of-unended (byte ∷ []) some unbroken = rw (not-true (eqb byte lineEnd) (first-of (not (eqb byte lineEnd)) true unbroken))
+lines-of-unended (byte ∷ []) some unbroken = rw (ne-eqb byte lineEnd (unbroken .0))
 lines-of-unended (byte ∷ next ∷ rest) some unbroken =
-    rw (
-      not-true (eqb byte lineEnd) (first-of (not (eqb byte lineEnd)) (isUnbroken (next ∷ rest)) unbroken),
-      lines-of-unended (next ∷ rest) (omega arith) (second-of (not (eqb byte lineEnd)) (isUnbroken (next ∷ rest)) unbroken),
-    )
+    rw (ne-eqb byte lineEnd (unbroken .0), lines-of-unended (next ∷ rest) (omega arith) (unbroken .1))
 
-lines-of-ended : (body rest : List ℕ) → isUnbroken body ≡ true → linesOf ((body ++ lineEnd ∷ []) ++ rest) ≡ (body ++ lineEnd ∷ []) ∷ linesOf rest
-unfolding linesOf isUnbroken
+lines-of-ended : (body rest : List ℕ) → Unbroken body → linesOf ((body ++ 10 ∷ []) ++ rest) ≡ (body ++ 10 ∷ []) ∷ linesOf rest
+unfolding linesOf Unbroken
 lines-of-ended [] rest unbroken = refl
-lines-of-ended (byte ∷ body) rest unbroken =
-    rw (
-      not-true (eqb byte lineEnd) (first-of (not (eqb byte lineEnd)) (isUnbroken body) unbroken),
-      lines-of-ended body rest (second-of (not (eqb byte lineEnd)) (isUnbroken body) unbroken),
-    )
+lines-of-ended (byte ∷ body) rest unbroken = rw (ne-eqb byte lineEnd (unbroken .0), lines-of-ended body rest (unbroken .1))
 
 pub lines-only : {lines : List (List ℕ)} → AreLines lines → linesOf (joined lines) ≡ lines
 unfolding joined linesOf
 lines-only none = refl
 lines-only (unended line some unbroken) = rw append-nil (lines-of-unended line some unbroken)
 lines-only (more body lines unbroken are) = rw (lines-of-ended body (joined lines) unbroken, lines-only are)
+
+-- the first line is found
+before-first : (byte : ℕ) {line text : List ℕ} → (byte ≡ 10 → ⊥) → FirstLine line text → FirstLine (byte ∷ line) (byte ∷ text)
+unfolding Unbroken
+before-first byte other (ended body rest unbroken) = ended (byte ∷ body) rest (other, unbroken)
+before-first byte other (all-left line unbroken) = all-left (byte ∷ line) (other, unbroken)
+
+first-found : (text : List ℕ) → FirstLine (take (lineLength text) text) text
+unfolding lineLength Unbroken
+first-found [] = all-left [] tt
+first-found (byte ∷ rest) =
+    by-test (eqb byte lineEnd) (λ same. let here : byte ≡ 10 = eqb-true _ _ same in rw here (ended [] rest tt))
+    (λ other. rw other (before-first byte (eqb-false _ _ other) (first-found rest)))
+
+-- and there is no other
+ended-length : (body rest : List ℕ) → Unbroken body → lineLength ((body ++ 10 ∷ []) ++ rest) ≡ length (body ++ 10 ∷ [])
+unfolding lineLength Unbroken
+ended-length [] rest unbroken = refl
+ended-length (byte ∷ body) rest unbroken = rw (ne-eqb byte lineEnd (unbroken .0), ended-length body rest (unbroken .1))
+
+unbroken-length : (line : List ℕ) → Unbroken line → lineLength line ≡ length line
+unfolding lineLength Unbroken
+unbroken-length [] unbroken = refl
+unbroken-length (byte ∷ line) unbroken = rw (ne-eqb byte lineEnd (unbroken .0), unbroken-length line (unbroken .1))
+
+pub first-only : {line text : List ℕ} → FirstLine line text → line ≡ take (lineLength text) text
+first-only (ended body rest unbroken) = rw (ended-length body rest unbroken, take-append-seam (body ++ 10 ∷ []) rest)
+first-only (all-left line unbroken) = rw (unbroken-length line unbroken, take-length line)
 
 -- the first line, and the lines of what follows it
 first-line : (byte : ℕ) (rest : List ℕ) → linesOf (byte ∷ rest) ≡ take (lineLength (byte ∷ rest)) (byte ∷ rest) ∷ linesOf (drop (lineLength (byte ∷ rest)) (byte ∷ rest))
@@ -77,6 +102,15 @@ unfolding lineLength
 line-some byte rest = by-test (eqb byte lineEnd) (λ same. rw same (omega arith)) (λ other. rw other (omega arith))
 
 module _ (text : List ℕ) (at : ℕ) where
+  -- the line at a place is the first of what stands from there on, and no other is
+  pub line-first : FirstLine (lineAt text at) (drop at text)
+  unfolding lineAt
+  line-first = first-found (drop at text)
+
+  pub line-only : {line : List ℕ} → FirstLine line (drop at text) → line ≡ lineAt text at
+  unfolding lineAt
+  line-only first = first-only first
+
   -- a walk at a place has the line there before it, and then the lines from the place past it on
   pub walk-on : at < length text → linesOf (drop at text) ≡ lineAt text at ∷ linesOf (drop (pastLine text at) text)
   unfolding lineAt pastLine
@@ -108,6 +142,12 @@ lines-within (byte ∷ rest) =
 -- while a line is left the place moves on
 pub moves-on : (text : List ℕ) (at : ℕ) → at < length text → at < pastLine text at
 moves-on text at inside = omega (arith, past-is text at, walk-some text at inside)
+
+-- a walk that hands out a line with a byte moves on
+pub walk-further : (text : List ℕ) (at end : ℕ) (line : List ℕ) → line ≡ lineAt text at → (length line ≡ 0 → ⊥) → end ≡ pastLine text at → (at < length text) × (at < end)
+walk-further text at end line is some past =
+    by-test (leb (length text) at) (λ done. absurd (some (ap length (is ∙ walk-done text at (leb-true _ _ done) .1))))
+    (λ left. let inside : at < length text = leb-false _ _ left in (inside, omega (arith, past, moves-on text at inside)))
 
 -- and it stays in the text
 pub ends-inside : (text : List ℕ) (at : ℕ) → at < length text → pastLine text at ≤ length text

@@ -34,3 +34,10 @@ pastLine text at = at + lineLength (drop at text)
 -- a part of a text; the empty front where these are no places of it in order
 unfoldable pub partOf : List ℕ → ℕ → ℕ → List ℕ
 partOf text from to = cond (leb from to && leb to (length text)) (take (to - from) (drop from text)) []
+
+-- where a part, or the line at a place, lies in its text: the empty front lies at the top
+unfoldable pub partStart : List ℕ → ℕ → ℕ → ℕ
+partStart text from to = cond (leb from to && leb to (length text)) from 0
+
+unfoldable pub lineStart : List ℕ → ℕ → ℕ
+lineStart text at = cond (leb at (length text)) at 0

@@ -1,16 +1,17 @@
--- What it means that a text has lines. It is no way of cutting; the lines of a text are proved to be these. Assumes nothing.
-use Prim.Native.Nat.{ℕ, _≤_}
+-- What it means that a text has lines, that a line is the first of a text, where a part lies in its text, and that a walk goes through a text.
+-- It is no way of cutting or walking; what the functions of this room answer is proved to be this. Assumes nothing.
+use Prim.Native.Nat.{ℕ, _+_, _≤_, _<_}
 use mathlib.Core.Path.{_≡_}
-use mathlib.Core.Bool.{Bool, true, not, _&&_}
 use mathlib.Core.List.{List, [], _∷_, _++_}
-use lib.ListN.{length}
-use lib.Dec.{eqb}
-use Rattle.texts.specs.Lines.{lineEnd}
+use lib.ListN.{length, drop}
+use denote.Ref.{RefT, now}
+use Rattle.texts.specs.declared.Walk.{Walk}
+use Rattle.texts.specs.declared.Handed.{Handed}
 
--- a text with no line end in it
-unfoldable pub isUnbroken : List ℕ → Bool
-isUnbroken [] = true
-isUnbroken (byte ∷ rest) = not (eqb byte lineEnd) && isUnbroken rest
+-- a text in which no byte is 10
+unfoldable pub Unbroken : List ℕ → Type 0
+Unbroken [] = Unit {0}
+Unbroken (byte ∷ rest) = (byte ≡ 10 → ⊥) × Unbroken rest
 
 -- texts one behind the other
 unfoldable pub joined : List (List ℕ) → List ℕ
@@ -20,5 +21,45 @@ joined (text ∷ texts) = text ++ joined texts
 -- "Each line ends with byte 10. Bytes after the last byte 10, if there are any, count as a line"
 pub data AreLines : List (List ℕ) → Type 0 where
   none : AreLines []
-  unended : (line : List ℕ) → 1 ≤ length line → isUnbroken line ≡ true → AreLines (line ∷ [])
-  more : (body : List ℕ) (lines : List (List ℕ)) → isUnbroken body ≡ true → AreLines lines → AreLines ((body ++ lineEnd ∷ []) ∷ lines)
+  unended : (line : List ℕ) → 1 ≤ length line → Unbroken line → AreLines (line ∷ [])
+  more : (body : List ℕ) (lines : List (List ℕ)) → Unbroken body → AreLines lines → AreLines ((body ++ 10 ∷ []) ∷ lines)
+
+-- the first line of a text: up to its first byte 10, or all of it where it has none; so the empty text's is empty, and none is left
+pub data FirstLine : List ℕ → List ℕ → Type 0 where
+  ended : (body rest : List ℕ) → Unbroken body → FirstLine (body ++ 10 ∷ []) ((body ++ 10 ∷ []) ++ rest)
+  all-left : (line : List ℕ) → Unbroken line → FirstLine line line
+
+-- a part of a text between two places: so many bytes stand before it, and so many up to its end
+pub record Between (text part : List ℕ) (from to : ℕ) : Type 0 where
+  pub front : List ℕ
+  pub rest : List ℕ
+  pub whole : text ≡ front ++ (part ++ rest)
+  pub begins : length front ≡ from
+  pub ends : from + length part ≡ to
+
+-- a part lies in the memory of its text, so many bytes from where the text starts
+abbrev pub LiesAt : RefT (List ℕ) → RefT (List ℕ) → ℕ → Type 0
+LiesAt part text place = (part .ptr .0 ≡ text .ptr .0) × (part .ptr .1 ≡ text .ptr .1 + place)
+
+-- a line lies at its place; where the text does not reach so far it is the text's empty front
+abbrev pub LineLies : RefT (List ℕ) → RefT (List ℕ) → ℕ → Type 0
+LineLies line text at = (at ≤ length (now text) → LiesAt line text at) × (length (now text) < at → LiesAt line text 0)
+
+-- "A walk through a text keeps the text and the place reached": from the top
+pub record Starts (text : RefT (List ℕ)) (walk : Walk) : Type 0 where
+  pub keeps : walk .text ≡ text
+  pub at-top : walk .at ≡ 0
+
+-- "and hands out one line after another until none is left. It goes on from the place it holds; at or past the end of the text none is left"
+pub record Hands (walk : Walk) (handed : Handed) : Type 0 where
+  pub first : FirstLine (now (handed .line)) (drop (walk .at) (now (walk .text)))
+  pub lies : LineLies (handed .line) (walk .text) (walk .at)
+  pub keeps : handed .walk .text ≡ walk .text
+  pub moves : handed .walk .at ≡ walk .at + length (now (handed .line))
+
+-- a walk until none is left: the lines that were handed out, and the walk after that
+pub data Walked : Walk → List (List ℕ) → Walk → Type 0 where
+  none-left : (walk : Walk) (handed : Handed) → Hands walk handed → now (handed .line) ≡ [] → Walked walk [] (handed .walk)
+  goes-on :
+      (walk last : Walk) (handed : Handed) (lines : List (List ℕ)) → Hands walk handed → 1 ≤ length (now (handed .line)) → Walked (handed .walk) lines last
+      → Walked walk (now (handed .line) ∷ lines) last

@@ -54,6 +54,8 @@ fn answer(case: &[u8]) -> Option<Results> {
         [b"number", field] => one_number("number", number_field(&text(field)?)),
         [b"write-hour", hour, room] => write_hour_case(number(hour)?, buffer(room)?),
         [b"lines", lines] => lines_case(&text(lines)?),
+        [b"walk", lines] => walk_case(&text(lines)?),
+        [b"line", place, lines] => line_case(number(place)? as usize, &text(lines)?),
         [b"heading", line] => heading_case(&text(line)?),
         [b"order", line] => order_case(&text(line)?),
         [b"load", count, line] => load_case(number(count)?, &text(line)?),
@@ -112,6 +114,22 @@ fn written_results(written: Result<usize, Refusal>, buffer: &[u8]) -> Results {
 fn lines_case(text: &[u8]) -> Results {
     let count = Results::default().number(lines(text).count() as u32);
     lines(text).fold(count, Results::text)
+}
+
+/// The number of lines, and the place behind the last.
+fn walk_case(text: &[u8]) -> Results {
+    Results::default()
+        .number(lines(text).count() as u32)
+        .number(text.len() as u32)
+}
+
+/// The line from this place on, empty if there is none, and the place behind it.
+fn line_case(place: usize, text: &[u8]) -> Results {
+    let left = text.get(place..).unwrap_or_default();
+    let line = lines(left).next().unwrap_or_default();
+    Results::default()
+        .text(line)
+        .number((place + line.len()) as u32)
 }
 
 fn heading_case(line: &[u8]) -> Results {

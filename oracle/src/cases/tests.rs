@@ -107,6 +107,18 @@ fn lines_keep_their_line_ends() {
 }
 
 #[test]
+fn a_walk_takes_any_length() {
+    check("walk \\e", "0 0");
+    check("walk a¶b", "2 3");
+    check("walk ¶\\{65530}abcdefghij¶xy", "65532 65543");
+    check("line 1 a¶b", "¶ 2");
+    check("line 65536 ¶\\{65530}abcdefghij¶xy", "ghij¶ 65541");
+    // At or past the end none is left, and the walk stays.
+    check("line 3 a¶b", "\\e 3");
+    check("line 4 a¶b", "\\e 4");
+}
+
+#[test]
 fn lines_are_read_from_the_left() {
     for (case, results) in [
         ("heading steam→2→3¶", "heading 2 300"),

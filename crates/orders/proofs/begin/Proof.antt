@@ -27,7 +27,7 @@ enum-known-heading c = search needs
 begun-with-requires : tie.Need-begun-with-requires
 begun-with-requires c κs =
     let k = c .before .before .before in
-    rw (← k .before .line-at .ensures, ← k .read-heading .ensures, c .before .heading .given .1)
+    rw (← k .before .line-at .ensures .0, ← k .read-heading .ensures, c .before .heading .given .1)
 
 enum-known-number : tie.Need-enum-known-number
 enum-known-number c = search needs
@@ -45,7 +45,7 @@ returns-3 : tie.Need-returns-3
 returns-3 c =
     let k = c .before .before .before .before in
     let start = k .before .before .before .before in
-    let refused : headingOf (lineAt (start .args .text .now) 0) ≡ wrong (c .before .before .number .given .0 .0) = rw (← k .before .line-at .ensures, ← k .read-heading .ensures, c .before .before .number .given .1) in
+    let refused : headingOf (lineAt (start .args .text .now) 0) ≡ wrong (c .before .before .number .given .0 .0) = rw (← k .before .line-at .ensures .0, ← k .read-heading .ensures, c .before .before .number .given .1) in
     rw (heading-wrong (start .args .text .now) (omega (arith, k .before .before .if1 .left)) _ refused, first-line-refused _ _ refused) (c .not-begun2 .ensures)
 
 pub begin-spec : {M : Type 1} → statement M

@@ -11,7 +11,7 @@ line-at-requires c κs = search needs
 add-end : tie.Need-add-end
 add-end c =
     let start = c .before .before .args in
-    rw (c .line-at .ensures) (omega (arith, past-is (start .text .now) (start .progress .at), not-beyond (start .text .now) (start .progress .at)))
+    rw (c .line-at .ensures .0) (omega (arith, past-is (start .text .now) (start .progress .at), not-beyond (start .text .now) (start .progress .at)))
 
 read-order-requires : tie.Need-read-order-requires
 read-order-requires c κs = search needs
@@ -31,7 +31,7 @@ passed-requires c κs = search needs
 returns : tie.Need-returns
 returns c =
     let k = c .before .before .before .before in
-    let line = k .before .line-at .ensures in
+    let line = k .before .line-at .ensures .0 in
     let reads = c .before .before .order .given .1 in
     record {
       read = rw (← line, ← k .read-order .ensures, reads) (c .booked .ensures .0);
@@ -42,7 +42,7 @@ returns c =
 returns-2 : tie.Need-returns-2
 returns-2 c =
     let k = c .before .before .before .before in
-    let line = k .before .line-at .ensures in
+    let line = k .before .line-at .ensures .0 in
     let reads = c .before .before .number .given .1 in
     record {
       read = rw (← line, ← k .read-order .ensures, reads) (c .passed .ensures .0);

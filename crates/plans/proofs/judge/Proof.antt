@@ -41,7 +41,7 @@ judge-with-requires c κs =
     let k = c .before .before .before in
     let e = k .before .before in (
       (omega (arith, e .before .if1 .left), omega (arith, e .if2 .left)),
-      rw (← k .before .line-at .ensures, ← k .read-heading .ensures, c .before .heading .given .1),
+      rw (← k .before .line-at .ensures .0, ← k .read-heading .ensures, c .before .heading .given .1),
     )
 
 enum-known-number : tie.Need-enum-known-number
@@ -66,7 +66,7 @@ returns-4 c =
     let k = n .before .before in
     let e = k .before .before in
     let a = e .before .before .before .before .args in
-    let refused : headingOf (lineAt (a .list .now) 0) ≡ wrong (n .number .given .0 .0) = rw (← k .before .line-at .ensures, ← k .read-heading .ensures, n .number .given .1) in
+    let refused : headingOf (lineAt (a .list .now) 0) ≡ wrong (n .number .given .0 .0) = rw (← k .before .line-at .ensures .0, ← k .read-heading .ensures, n .number .given .1) in
     c .list-fault2 .ensures
     ∙ rw (c .before .line-end .ensures)
     (sym (first-line-faulty (a .list .now) (a .plan .now) (omega (arith, e .before .if1 .left)) (omega (arith, e .if2 .left)) _ refused))

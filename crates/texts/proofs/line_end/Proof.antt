@@ -1,9 +1,10 @@
 -- `line_end` goes byte after byte: the place past the line is the same from each place on the way.
 use Prim.Native.Nat.{_-_}
 use mathlib.Core.Path.{_≡_, refl, sym, _∙_}
+use native.Mathlib.Omega.{arith}
 use borrow.Author.Needs.{needs}
-use lib.ListN.{length}
-use Rattle.texts.specs.Lines.{pastLine}
+use lib.ListN.{length, getD}
+use Rattle.texts.specs.Lines.{lineEnd, pastLine}
 use Rattle.texts.proofs.Lines.{past-none, past-end, past-other}
 use Rattle.texts.proofs.line_end.Statement.{statement}
 use Rattle.texts.proofs.line_end.Tie as tie
@@ -24,7 +25,11 @@ add-result : tie.Need-add-result Inv-loop μ-loop
 add-result c = search needs
 
 returns : tie.Need-returns Inv-loop μ-loop
-returns c = sym (c .before .before .before .loop .inv ∙ past-end _ _ (c .before .before .loop-test .taken) (c .if1 .taken))
+returns c =
+    let loop = c .before .before .before in
+    let text = loop .before .args .text .now in
+    let here : getD text (loop .loop .end) 0 ≡ lineEnd = omega (arith, c .if1 .taken) in
+    sym (loop .loop .inv ∙ past-end text (loop .loop .end) (c .before .before .loop-test .taken) here)
 
 add-end : tie.Need-add-end Inv-loop μ-loop
 add-end c = search needs

@@ -8,7 +8,7 @@ abbrev Inv-loop : tie.InvT-loop
 Inv-loop name names kind₀ kind = Unit {0}
 
 abbrev μ-loop : tie.MeasureT-loop
-μ-loop name names kind₀ kind = 12 - kind
+μ-loop name names kind₀ kind = 14 - kind
 
 loop-holds : tie.Need-loop-holds Inv-loop μ-loop
 loop-holds c = search needs

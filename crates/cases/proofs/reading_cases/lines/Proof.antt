@@ -3,7 +3,7 @@ use Prim.Native.Nat.{_-_}
 use native.Mathlib.Omega.{arith}
 use borrow.Author.Needs.{needs}
 use lib.ListN.{length}
-use Rattle.texts.proofs.WholeText.{moves-on}
+use Rattle.texts.proofs.WholeText.{walk-further}
 use Rattle.cases.proofs.reading_cases.lines.Statement.{statement}
 use Rattle.cases.proofs.reading_cases.lines.Tie as tie
 
@@ -13,35 +13,37 @@ Inv-loop text at₀ at = Unit {0}
 abbrev μ-loop : tie.MeasureT-loop
 μ-loop text at₀ at = length text - at
 
-line-count-requires : tie.Need-line-count-requires Inv-loop μ-loop
-line-count-requires c κs = search needs
+walked-from-top-requires : tie.Need-walked-from-top-requires Inv-loop μ-loop
+walked-from-top-requires c κs = search needs
 
 number-requires : tie.Need-number-requires Inv-loop μ-loop
 number-requires c κs = search needs
 
+walk-start-requires : tie.Need-walk-start-requires Inv-loop μ-loop
+walk-start-requires c κs = search needs
+
 loop-holds : tie.Need-loop-holds Inv-loop μ-loop
 loop-holds c = search needs
 
-line-at-requires : tie.Need-line-at-requires Inv-loop μ-loop
-line-at-requires c κs = search needs
+walked-line-requires : tie.Need-walked-line-requires Inv-loop μ-loop
+walked-line-requires c κs = search needs
+
+returns : tie.Need-returns Inv-loop μ-loop
+returns c = search needs
 
 text-requires : tie.Need-text-requires Inv-loop μ-loop
 text-requires c κs = search needs
 
-line-end-requires : tie.Need-line-end-requires Inv-loop μ-loop
-line-end-requires c κs = search needs
+walked-place-requires : tie.Need-walked-place-requires Inv-loop μ-loop
+walked-place-requires c κs = search needs
 
 loop-less : tie.Need-loop-less Inv-loop μ-loop
 loop-less c =
-    let inside = c .before .before .before in
-    let loop = inside .before in
-    omega (arith, c .line-end .ensures, moves-on (loop .before .before .before .before .args .text .now) (loop .loop .at) (inside .loop-test .taken))
+    let found = c .before .before .before in
+    omega (arith, walk-further _ _ _ (found .walked-line .result .now) (found .walked-line .ensures .0) (c .before .before .if1 .left) (c .walked-place .ensures))
 
 loop-again : tie.Need-loop-again Inv-loop μ-loop
 loop-again c = search needs
-
-returns : tie.Need-returns Inv-loop μ-loop
-returns c = search needs
 
 pub lines-spec : {M : Type 1} → statement M
 lines-spec =
@@ -49,12 +51,13 @@ lines-spec =
     (tie.spec
     Inv-loop
     μ-loop
-    line-count-requires
+    walked-from-top-requires
     number-requires
+    walk-start-requires
     loop-holds
-    line-at-requires
+    walked-line-requires
+    returns
     text-requires
-    line-end-requires
+    walked-place-requires
     loop-less
-    loop-again
-    returns)
+    loop-again)

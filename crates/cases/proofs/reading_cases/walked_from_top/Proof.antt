@@ -1,0 +1,46 @@
+-- `walked_from_top` ends: fewer bytes are left past each line, and there are no more lines than bytes passed.
+use Prim.Native.Nat.{_-_, _≤_, _<_}
+use native.Mathlib.Omega.{arith}
+use borrow.Author.Needs.{needs}
+use lib.ListN.{length}
+use Rattle.texts.proofs.WholeText.{walk-further}
+use Rattle.cases.proofs.reading_cases.walked_from_top.Statement.{statement}
+use Rattle.cases.proofs.reading_cases.walked_from_top.Tie as tie
+
+abbrev Inv-loop : tie.InvT-loop
+Inv-loop text count₀ at₀ count at = count ≤ at
+
+abbrev μ-loop : tie.MeasureT-loop
+μ-loop text count₀ at₀ count at = length text - at
+
+-- the line that was handed out has a byte, so the walk moves on inside the text
+further : (k : tie.After-walked-place Inv-loop μ-loop) → (k .before .before .before .loop .at < length (k .before .before .before .before .before .before .args .text .now)) × (k .before .before .before .loop .at < k .walked-place .result)
+further k = let found = k .before .before in walk-further _ _ _ (found .walked-line .result .now) (found .walked-line .ensures .0) (k .before .if1 .left) (k .walked-place .ensures)
+
+walk-start-requires : tie.Need-walk-start-requires Inv-loop μ-loop
+walk-start-requires c κs = search needs
+
+loop-holds : tie.Need-loop-holds Inv-loop μ-loop
+loop-holds c = search needs
+
+walked-line-requires : tie.Need-walked-line-requires Inv-loop μ-loop
+walked-line-requires c κs = search needs
+
+returns : tie.Need-returns Inv-loop μ-loop
+returns c = search needs
+
+walked-place-requires : tie.Need-walked-place-requires Inv-loop μ-loop
+walked-place-requires c κs = search needs
+
+add-count : tie.Need-add-count Inv-loop μ-loop
+add-count c = record { fits = omega (arith, further c) }
+
+loop-less : tie.Need-loop-less Inv-loop μ-loop
+loop-less c = omega (arith, further c)
+
+loop-again : tie.Need-loop-again Inv-loop μ-loop
+loop-again c = omega (arith, further c)
+
+pub walked-from-top-spec : {M : Type 1} → statement M
+walked-from-top-spec =
+    tie.close (tie.spec Inv-loop μ-loop walk-start-requires loop-holds walked-line-requires returns walked-place-requires add-count loop-less loop-again)
