@@ -5,7 +5,7 @@ use crate::case_text::TextRead;
 use crate::results;
 use book::Answer;
 use orders::Progress;
-use pieces::LINE_ROOM;
+use writer::LINE_ROOM;
 use plans::Fault;
 use plans::Judgement;
 use writer::text_in;

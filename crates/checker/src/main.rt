@@ -2,7 +2,7 @@
 // What is judged and how it is printed is the library's; here it is read in, called and written out. A file that cannot be opened or read to its end is unread.
 use ground::LONGEST_TEXT;
 use judgements::write_judgement;
-use pieces::LINE_ROOM;
+use writer::LINE_ROOM;
 use writer::text_in;
 
 // Room for a text, and for one byte more, which tells that it is too long.

@@ -5,7 +5,7 @@ ghost use Rattle.orders.specs.Answers.{progressPast};
 use book::Answer;
 use ground::LONGEST_TEXT;
 use orders::Progress;
-use pieces::LINE_ROOM;
+use writer::LINE_ROOM;
 use writer::text_in;
 
 // Room for a list, and for one byte more, which tells that a text is too long.

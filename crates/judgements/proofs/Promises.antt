@@ -1,45 +1,29 @@
--- What this room promises, about the very definitions that its contract cites. Each is a line over a promise of the pieces. Assumes nothing.
-use Prim.Native.Nat.{ℕ, _≤_, _<_}
-use mathlib.Core.Path.{_≡_}
+-- What this room promises, of the answer itself. Assumes nothing.
+use Prim.Native.Nat.{ℕ}
+use mathlib.Core.Path.{_≡_, refl, sym, _∙_}
+use mathlib.Core.Bool.{true}
 use mathlib.Core.List.{List}
-use mathlib.Core.Logic.{_↔_}
-use lib.ListN.{length, drop}
-use Rattle.ground.specs.Refusal.{wrong, right}
-use Rattle.ground.specs.Buffer.{fitted, lengthOf, bufferAfter}
-use Rattle.ground.specs.Outcome.{Single}
-use Rattle.writer.specs.Writing.{asLength}
+use contract.Lifetimes.{Lfts}
+use denote.Ref.{now}
+use Rattle.ground.specs.Refusal.{right}
+use Rattle.writer.specs.Meaning.{Writes}
 use Rattle.writer.specs.declared.Written.{Written}
-use Rattle.pieces.proofs.Promises as pieces
+use Rattle.writer.proofs.Answers as answers
 use Rattle.plans.specs.declared.Judgement.{Judgement}
 use Rattle.judgements.specs.Judgements.{judgementLine}
+use Rattle.judgements.proofs.write_judgement.Reads as write-judgement
 
--- 1b: a judgement is refused by 7 exactly when its line is longer than the buffer, and is written in every other case
-pub judgement-refused-by-seven :
-    (judgement : Judgement) (buffer : List ℕ)
-    → (lengthOf (fitted buffer (right (judgementLine judgement))) ≡ wrong 7) ↔ (length buffer < length (judgementLine judgement))
-judgement-refused-by-seven judgement = pieces.refused-by-seven (judgementLine judgement)
-
-pub judgement-written-exactly :
-    (judgement : Judgement) (buffer bytes : List ℕ)
-    → (fitted buffer (right (judgementLine judgement)) ≡ right bytes) ↔ ((length (judgementLine judgement) ≤ length buffer) × (bytes ≡ judgementLine judgement))
-judgement-written-exactly judgement = pieces.written-exactly (judgementLine judgement)
-
--- 1c: a refused write leaves every byte, and a write changes no byte but its own, at the front
-pub refused-judgement-stays :
-    (judgement : Judgement) (buffer : List ℕ) (number : ℕ) → lengthOf (fitted buffer (right (judgementLine judgement))) ≡ wrong number
-    → bufferAfter buffer (fitted buffer (right (judgementLine judgement))) ≡ buffer
-refused-judgement-stays judgement = pieces.refused-write-stays (judgementLine judgement)
-
-pub judgement-changes-its-own :
-    (judgement : Judgement) (buffer : List ℕ) (count : ℕ) → lengthOf (fitted buffer (right (judgementLine judgement))) ≡ right count
-    → drop count (bufferAfter buffer (fitted buffer (right (judgementLine judgement)))) ≡ drop count buffer
-judgement-changes-its-own judgement = pieces.write-changes-its-own (judgementLine judgement)
+-- 1b, 1c: a judgement is refused by 7 exactly when its line is longer than the buffer, and every byte stays; in every other case its line stands at the front,
+-- every other byte stays, and its length is answered
+pub judgement-writes :
+    (κs : Lfts 1) (judgement : Judgement) (buffer : _) (answer : Written) (after : _) → write-judgement.Learnt κs (judgement, (buffer, tt)) answer after
+    → Writes (Unit {0}) (judgementLine judgement) (now buffer) answer (now (after .1 .0))
+judgement-writes κs judgement buffer answer after learnt =
+    answers.writes true (Unit {0}) answers.always (judgementLine judgement) (now buffer) (right (judgementLine judgement)) refl answer (now (after .1 .0))
+    (learnt .0) (learnt .1)
 
 -- 1d: the writer's contract admits a single outcome
 pub write-judgement-single :
-    (judgement : Judgement) (buffer : List ℕ)
-    → Single {A = Written × List ℕ}
-    (λ outcome.
-    (asLength (outcome .0) ≡ lengthOf (fitted buffer (right (judgementLine judgement))))
-    × (outcome .1 ≡ bufferAfter buffer (fitted buffer (right (judgementLine judgement)))))
-write-judgement-single judgement = pieces.write-text-single (judgementLine judgement)
+    (κs : Lfts 1) (judgement : Judgement) (buffer : _) (one other : Written) (held kept : _) → write-judgement.Learnt κs (judgement, (buffer, tt)) one held
+    → write-judgement.Learnt κs (judgement, (buffer, tt)) other kept → (one ≡ other) × (now (held .1 .0) ≡ now (kept .1 .0))
+write-judgement-single κs judgement buffer one other held kept p q = answers.single one other (p .0) (q .0) (p .1 ∙ sym (q .1))

@@ -14,7 +14,9 @@ use Rattle.writer.proofs.Writing.{length-of-text}
 use Rattle.texts.specs.Lines.{lineEnd, linesOf}
 use Rattle.fields.specs.Fields.{isNone, isEnded}
 use Rattle.lines.specs.Reading.{loadOf}
-use Rattle.planlines.specs.Writing.{InRange, planText}
+use Rattle.fields.specs.Meaning.{tabbed}
+use Rattle.planlines.specs.Writing.{planText}
+use Rattle.planlines.specs.Meaning.{InRange}
 use Rattle.texts.specs.Meaning.{joined}
 use Rattle.lines.specs.declared.Load.{Load}
 use Rattle.planlines.proofs.RoundTrip.{text-ended, text-reads-back}
@@ -85,7 +87,7 @@ longestLine = 18
 
 -- no plan line has more
 line-short : {order chamber start : ℕ} → InRange order chamber start → length (planText order chamber start) ≤ longestLine
-unfolding planText
+unfolding planText tabbed
 line-short {order} {chamber} {start} range =
     simp length-append
     (omega (

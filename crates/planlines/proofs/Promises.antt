@@ -1,60 +1,52 @@
--- What this room promises, about the very definitions that its contracts cite. Each is a line over a law of this folder. Assumes nothing.
-use Prim.Native.Nat.{ℕ, _≤_, _<_}
-use mathlib.Core.Path.{_≡_}
-use mathlib.Core.List.{List}
-use mathlib.Core.Logic.{_↔_}
-use lib.ListN.{length, take, drop}
-use Rattle.ground.specs.Refusal.{wrong, right}
-use Rattle.ground.specs.Buffer.{fitted, lengthOf, bufferAfter}
-use Rattle.ground.specs.Outcome.{Single}
-use Rattle.ground.proofs.Buffer.{refused-stays, written-rest}
-use Rattle.ground.proofs.Outcome.{single-writing}
-use Rattle.writer.specs.Writing.{asLength}
+-- What this room promises, of the answer itself and of the text that it is about. Each is a line over a law of this folder or of the writer. Assumes nothing.
+use Prim.Native.Nat.{ℕ, _≤_}
+use mathlib.Core.Path.{_≡_, refl, sym, ap, _∙_}
+use lib.ListN.{take}
+use contract.Lifetimes.{Lfts}
+use denote.Ref.{now}
+use Rattle.ground.specs.Refusal.{right}
+use Rattle.writer.specs.Meaning.{Writes}
 use Rattle.writer.specs.declared.Written.{Written}
-use Rattle.writer.proofs.Promises.{length-told}
+use Rattle.writer.specs.declared.Written.the-variants.{Length}
+use Rattle.writer.proofs.Answers as answers
 use Rattle.lines.specs.Reading.{loadOf}
-use Rattle.planlines.specs.Writing.{InRange, planText, planWritten}
+use Rattle.planlines.specs.Writing.{planText, planWritten}
+use Rattle.planlines.specs.Meaning.{InRange, PlanText}
 use Rattle.planlines.proofs.PlanLine as plan
 use Rattle.planlines.proofs.RoundTrip as back
+use Rattle.planlines.proofs.write_plan_line.Reads as write-plan-line
 
--- 1b: a plan line is refused by 4 exactly when a number is out of its range, whatever the room
-pub refused-by-four :
-    (order chamber start : ℕ) (buffer : List ℕ)
-    → (lengthOf (fitted buffer (planWritten order chamber start)) ≡ wrong 4) ↔ (InRange order chamber start → ⊥)
-refused-by-four = plan.refused-by-four
+-- 1d: the writer's contract admits a single outcome
+pub write-plan-line-single :
+    (κs : Lfts 1) (order chamber start : ℕ) (buffer : _) (one other : Written) (held kept : _)
+    → write-plan-line.Learnt κs (order, (chamber, (start, (buffer, tt)))) one held
+    → write-plan-line.Learnt κs (order, (chamber, (start, (buffer, tt)))) other kept
+    → (one ≡ other) × (now (held .1 .1 .1 .0) ≡ now (kept .1 .1 .1 .0))
+write-plan-line-single κs order chamber start buffer one other held kept p q = answers.single one other (p .0) (q .0) (p .1 ∙ sym (q .1))
 
--- 1b: by 7 exactly when all are in range and the text is longer than the buffer
-pub refused-by-seven :
-    (order chamber start : ℕ) (buffer : List ℕ)
-    → (lengthOf (fitted buffer (planWritten order chamber start)) ≡ wrong 7)
-    ↔ (InRange order chamber start × (length buffer < length (planText order chamber start)))
-refused-by-seven = plan.refused-by-seven
+-- the text of a plan line is these three fields and no more: the order line and the chamber as plain numbers, and the start
+pub plan-text : (order chamber start : ℕ) → InRange order chamber start → PlanText order chamber start (planText order chamber start)
+plan-text = back.plan-text
 
--- in every other case the text is what is written
-pub written-exactly :
-    (order chamber start : ℕ) (buffer bytes : List ℕ)
-    → (fitted buffer (planWritten order chamber start) ≡ right bytes)
-    ↔ (InRange order chamber start × (length (planText order chamber start) ≤ length buffer) × (bytes ≡ planText order chamber start))
-written-exactly = plan.written-exactly
-
--- 1c: a refused write leaves every byte, and a write changes no byte but its own, at the front
-pub refused-write-stays :
-    (order chamber start : ℕ) (buffer : List ℕ) (number : ℕ) → lengthOf (fitted buffer (planWritten order chamber start)) ≡ wrong number
-    → bufferAfter buffer (fitted buffer (planWritten order chamber start)) ≡ buffer
-refused-write-stays order chamber start buffer = refused-stays buffer (fitted buffer (planWritten order chamber start))
-
-pub write-changes-its-own :
-    (order chamber start : ℕ) (buffer : List ℕ) (count : ℕ) → lengthOf (fitted buffer (planWritten order chamber start)) ≡ right count
-    → drop count (bufferAfter buffer (fitted buffer (planWritten order chamber start))) ≡ drop count buffer
-write-changes-its-own order chamber start buffer = written-rest buffer (fitted buffer (planWritten order chamber start))
+-- 1b, 1c: a plan line is refused by 4 exactly when a number is out of its range, whatever the room, then by 7 exactly when its text is longer than the buffer,
+-- and every byte stays; in every other case its text stands at the front, every other byte stays, and its length is answered
+pub plan-line-writes :
+    (κs : Lfts 1) (order chamber start : ℕ) (buffer : _) (answer : Written) (after : _)
+    → write-plan-line.Learnt κs (order, (chamber, (start, (buffer, tt)))) answer after
+    → Writes (InRange order chamber start) (planText order chamber start) (now buffer) answer (now (after .1 .1 .1 .0))
+plan-line-writes κs order chamber start buffer answer after learnt =
+    answers.writes (plan.inRange order chamber start) (InRange order chamber start) (plan.ranges-hold order chamber start, plan.ranges-pass order chamber start)
+    (planText order chamber start) (now buffer) (planWritten order chamber start) (plan.tested order chamber start) answer (now (after .1 .1 .1 .0)) (learnt .0)
+    (learnt .1)
 
 -- 2e: what was written reads back as its three numbers, with any list's count that admits the chamber
 pub written-reads-back :
-    (order chamber start : ℕ) (buffer : List ℕ) (length count : ℕ) → lengthOf (fitted buffer (planWritten order chamber start)) ≡ right length
-    → chamber ≤ count
-    → loadOf count (take length (bufferAfter buffer (fitted buffer (planWritten order chamber start))))
-    ≡ right (record { order = order; chamber = chamber; start = start })
-written-reads-back = back.written-reads-back
+    (κs : Lfts 1) (order chamber start : ℕ) (buffer : _) (length : ℕ) (after : _)
+    → write-plan-line.Learnt κs (order, (chamber, (start, (buffer, tt)))) (Length length) after → (count : ℕ) → chamber ≤ count
+    → loadOf count (take length (now (after .1 .1 .1 .0))) ≡ right (record { order = order; chamber = chamber; start = start })
+written-reads-back κs order chamber start buffer length after learnt count admitted =
+    let writes = plan-line-writes κs order chamber start buffer (Length length) after learnt in
+    ap (loadOf count) (writes .front length refl) ∙ back.text-reads-back order chamber start count (writes .written length .0 refl .0) admitted
 
 -- 2e: different triples never give the same bytes
 pub texts-differ :
@@ -62,14 +54,3 @@ pub texts-differ :
     → planText order chamber start ≡ planText other-order other-chamber other-start
     → (order ≡ other-order) × (chamber ≡ other-chamber) × (start ≡ other-start)
 texts-differ = back.texts-differ
-
--- 1d: the writer's contract admits a single outcome
-pub write-plan-line-single :
-    (order chamber start : ℕ) (buffer : List ℕ)
-    → Single {A = Written × List ℕ}
-    (λ outcome.
-    (asLength (outcome .0) ≡ lengthOf (fitted buffer (planWritten order chamber start)))
-    × (outcome .1 ≡ bufferAfter buffer (fitted buffer (planWritten order chamber start))))
-write-plan-line-single order chamber start buffer =
-    single-writing asLength length-told (lengthOf (fitted buffer (planWritten order chamber start)))
-    (bufferAfter buffer (fitted buffer (planWritten order chamber start)))

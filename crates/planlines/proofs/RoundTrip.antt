@@ -2,33 +2,31 @@
 use Prim.Native.Nat.{ℕ, _≤_, _/_}
 use mathlib.Core.Path.{_≡_, refl, sym, ap, _∙_}
 use mathlib.Core.Bool.{true}
-use mathlib.Core.List.{List, [], _∷_, _++_, append-assoc, append-nil}
-use lib.ListN.{length, take}
+use mathlib.Core.List.{List, [], _∷_, _++_, append-nil}
+use lib.ListN.{length}
 use native.Mathlib.Omega.{arith}
 use borrow.Author.Tests.{ne-eqb}
 use Rattle.ground.specs.Refusal.{right}
 use Rattle.ground.specs.Limits.{mostChambers, lastPlain}
 use Rattle.ground.specs.Spelling.{DigitByte, AllDigits}
 use Rattle.ground.specs.Digits.{lastDigit, spelled}
-use Rattle.ground.specs.Buffer.{fitted, lengthOf, bufferAfter}
 use Rattle.ground.proofs.Tests.{both}
 use Rattle.ground.proofs.Range.{within-from}
 use Rattle.ground.proofs.Refusal.{same-right}
 use Rattle.ground.proofs.Digits.{last-is-digit, spelled-digits, spelled-worth, spelled-plain}
-use Rattle.ground.proofs.Buffer.{written-front}
 use Rattle.classes.specs.Classes.{comma}
 use Rattle.hours.specs.Reading.{plainOf}
 use Rattle.writer.specs.Writing.{hourText}
 use Rattle.hours.proofs.Promises.{plain-exactly}
-use Rattle.writer.proofs.Writing.{reads-back}
+use Rattle.writer.proofs.Writing.{reads-back, hour-text}
 use Rattle.texts.specs.Lines.{lineEnd}
 use Rattle.fields.specs.Fields.{tab, isEnded, fieldsOf, shapeOf}
 use Rattle.lines.specs.Reading.{ranged, plainWithin, loadOf}
-use Rattle.planlines.specs.Writing.{InRange, planText, planWritten}
+use Rattle.planlines.specs.Writing.{planText}
+use Rattle.planlines.specs.Meaning.{InRange, PlanText}
 use Rattle.fields.specs.Meaning.{isClean, allClean, tabbed}
 use Rattle.lines.specs.declared.Load.{Load}
-use Rattle.planlines.proofs.PlanLine.{written-exactly}
-use Rattle.fields.proofs.Splits.{fields-of-tabbed}
+use Rattle.fields.proofs.Splits.{fields-of-tabbed, splits-exactly}
 
 -- digits are clean, and so is what is put behind a clean text
 clean-byte : (byte : ℕ) (rest : List ℕ) → (byte ≡ tab → ⊥) → (byte ≡ lineEnd → ⊥) → isClean rest ≡ true → isClean (byte ∷ rest) ≡ true
@@ -65,8 +63,8 @@ module _ (order chamber start : ℕ) where
 
   -- a plan line's text is its three numbers with tabs between and the line end behind
   text-tabbed : planText order chamber start ≡ tabbed numbers ++ lineEnd ∷ []
-  unfolding planText tabbed
-  text-tabbed = simp append-assoc
+  unfolding planText
+  text-tabbed = refl
 
   pub text-ended : isEnded (planText order chamber start) ≡ true
   text-ended = rw text-tabbed (fields-of-tabbed numbers (omega arith) numbers-clean .0)
@@ -105,14 +103,15 @@ texts-differ order chamber start other-order other-chamber other-start range oth
     ∙ text-reads-back other-order other-chamber other-start mostChambers other-range (other-range .chamber-number .1)) in
     (ap (λ (load : Load). load .order) loads, ap (λ (load : Load). load .chamber) loads, ap (λ (load : Load). load .start) loads)
 
--- what stands at the front of the buffer after a writing reads as the three numbers, with any list's count that admits the chamber
-pub written-reads-back :
-    (order chamber start : ℕ) (buffer : List ℕ) (length count : ℕ) → lengthOf (fitted buffer (planWritten order chamber start)) ≡ right length
-    → chamber ≤ count
-    → loadOf count (take length (bufferAfter buffer (fitted buffer (planWritten order chamber start))))
-    ≡ right (record { order = order; chamber = chamber; start = start })
-written-reads-back order chamber start buffer length count done admitted =
-    let p =
-    written-exactly order chamber start buffer (take length (bufferAfter buffer (fitted buffer (planWritten order chamber start)))) .0
-    (written-front buffer (fitted buffer (planWritten order chamber start)) length done) in
-    ap (loadOf count) (p .2) ∙ text-reads-back order chamber start count (p .0) admitted
+-- a plan line's text is these three fields, spelled
+pub plan-text : (order chamber start : ℕ) → InRange order chamber start → PlanText order chamber start (planText order chamber start)
+plan-text order chamber start range =
+    record {
+      first = spelled order;
+      second = spelled chamber;
+      third = hourText comma start;
+      splits = splits-exactly (planText order chamber start) (numbers order chamber start) .0 (text-ended order chamber start, text-fields order chamber start);
+      order-spelled = (spelled-plain order (omega arith), spelled-worth order);
+      chamber-spelled = (spelled-plain chamber (omega arith), spelled-worth chamber);
+      start-spelled = hour-text start (range .start-hour);
+    }

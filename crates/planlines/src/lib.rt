@@ -1,87 +1,39 @@
 // A plan line written to a lent buffer, from its three numbers: order line, chamber and start.
 // Any numbers and any buffer may come. Assumes nothing.
 ghost use mathlib.Core.Path.{_≡_};
-ghost use mathlib.Core.List.{[], _∷_, _++_};
-ghost use Prim.Native.Nat.{_+_, _≤_};
-ghost use lib.ListN.{length};
-ghost use Rattle.ground.specs.Limits.{lastHour};
-ghost use Rattle.ground.specs.Digits.{spelled};
 ghost use Rattle.ground.specs.Buffer.{fitted, lengthOf, bufferAfter};
-ghost use Rattle.classes.specs.Classes.{comma};
-ghost use Rattle.writer.specs.Writing.{hourText, asLength};
-ghost use Rattle.texts.specs.Lines.{lineEnd};
-ghost use Rattle.fields.specs.Fields.{tab};
-ghost use Rattle.planlines.specs.Writing.{inRange, planText, planWritten};
+ghost use Rattle.writer.specs.Writing.{asLength};
+ghost use Rattle.writer.specs.Line.{Comes};
+ghost use Rattle.planlines.specs.Writing.{planBegun, planFields, planWritten};
 use ground::FIRST_ORDER_LINE;
-use ground::LAST_HOUR;
 use ground::LAST_ORDER_LINE;
 use ground::MOST_CHAMBERS;
 use ground::within;
+use writer::LINE_ROOM;
 use writer::Written;
-use writer::digit_count;
-use writer::put_digits;
-use writer::write_hour;
-use writer::writing_refusal;
+use writer::put_hour;
+use writer::put_number;
+use writer::write_line;
 
-// The three numbers of a plan line lie in their ranges.
-fn in_range(order: u32, chamber: u32, start: u32) -> bool
-    ensures { λ r. ⌜ r ≡ inRange order chamber start ⌝ }
+// A plan line of which nothing is put yet: refusal 4 where the order line or the chamber is out of its range.
+fn begin_plan_line(order: u32, chamber: u32) -> Written
+    ensures { λ r. ⌜ asLength r ≡ planBegun order chamber ⌝ }
 {
     let order_fits = within(FIRST_ORDER_LINE, LAST_ORDER_LINE, order);
     let chamber_fits = within(1, MOST_CHAMBERS, chamber);
-    order_fits & chamber_fits & (start <= LAST_HOUR)
+    if order_fits & chamber_fits {
+        return Written::Length(0);
+    }
+    Written::Refused(4)
 }
 
-// How many bytes a plan line has: three numbers, two tabs, the comma and two digits of the start, and the line end.
-fn text_length(order: u32, chamber: u32, start: u32) -> usize
-    ensures { λ r. ⌜ r ≡ length (planText order chamber start) ⌝ }
+// Puts the fields of a plan line behind a line so far: refusal 4 where the start is above the last hour.
+fn put_plan_line(so_far: Written, order: u32, chamber: u32, start: u32, own: &mut [u8]) -> Written
+    ensures { λ r. ⌜ Comes (asLength «so_far») (planFields order chamber start) (now (own .entry)) (asLength r) (now (own .exit)) ⌝ }
 {
-    digit_count(order) + digit_count(chamber) + digit_count(start / 100) + 6
-}
-
-// Fills a buffer that is just long enough with a number and a tab.
-fn put_number(number: u32, buffer: &mut [u8])
-    requires { ⌜ length (now buffer) ≡ length (spelled number) + 1 ⌝ }
-    ensures { λ r. ⌜ now (buffer .exit) ≡ spelled number ++ tab ∷ [] ⌝ }
-{
-    let tab_at = buffer.len() - 1;
-    put_digits(number, &mut buffer[..tab_at]);
-    buffer[tab_at] = b'\t';
-}
-
-// Fills a buffer that is just long enough with a start and the line end.
-fn put_start(start: u32, buffer: &mut [u8])
-    requires { ⌜ start ≤ lastHour ⌝ }
-    requires { ⌜ length (now buffer) ≡ length (hourText comma start) + 1 ⌝ }
-    ensures { λ r. ⌜ now (buffer .exit) ≡ hourText comma start ++ lineEnd ∷ [] ⌝ }
-{
-    let end_at = buffer.len() - 1;
-    write_hour(start, &mut buffer[..end_at]);
-    buffer[end_at] = b'\n';
-}
-
-// Fills a buffer that is just long enough with a chamber, a tab, a start and the line end.
-fn put_chamber_and_start(chamber: u32, start: u32, buffer: &mut [u8])
-    requires { ⌜ start ≤ lastHour ⌝ }
-    requires { ⌜ length (now buffer) ≡ length (spelled chamber) + length (hourText comma start) + 2 ⌝ }
-    ensures { λ r. ⌜ now (buffer .exit) ≡ spelled chamber ++ tab ∷ (hourText comma start ++ lineEnd ∷ []) ⌝ }
-{
-    let end = buffer.len();
-    let start_at = digit_count(chamber) + 1;
-    put_number(chamber, &mut buffer[..start_at]);
-    put_start(start, &mut buffer[start_at..end]);
-}
-
-// Fills a buffer that is just long enough with a plan line.
-fn put_plan_line(order: u32, chamber: u32, start: u32, buffer: &mut [u8])
-    requires { ⌜ start ≤ lastHour ⌝ }
-    requires { ⌜ length (now buffer) ≡ length (planText order chamber start) ⌝ }
-    ensures { λ r. ⌜ now (buffer .exit) ≡ planText order chamber start ⌝ }
-{
-    let end = buffer.len();
-    let chamber_at = digit_count(order) + 1;
-    put_number(order, &mut buffer[..chamber_at]);
-    put_chamber_and_start(chamber, start, &mut buffer[chamber_at..end]);
+    let ordered = put_number(so_far, order, b'\t', own);
+    let housed = put_number(ordered, chamber, b'\t', own);
+    put_hour(housed, start, b'\n', own)
 }
 
 // Writes a plan line: refusal 4 where a number is out of its range, then 7 where the buffer is too short.
@@ -89,12 +41,8 @@ pub fn write_plan_line(order: u32, chamber: u32, start: u32, buffer: &mut [u8]) 
     ensures { λ r. ⌜ asLength r ≡ lengthOf (fitted (now (buffer .entry)) (planWritten order chamber start)) ⌝ }
     ensures { λ r. ⌜ now (buffer .exit) ≡ bufferAfter (now (buffer .entry)) (fitted (now (buffer .entry)) (planWritten order chamber start)) ⌝ }
 {
-    let room = buffer.len();
-    let length = text_length(order, chamber, start);
-    let refusal = writing_refusal(in_range(order, chamber, start), length, room);
-    if refusal != 0 {
-        return Written::Refused(refusal);
-    }
-    put_plan_line(order, chamber, start, &mut buffer[..length]);
-    Written::Length(length)
+    let mut own = [0u8; LINE_ROOM];
+    let begun = begin_plan_line(order, chamber);
+    let line = put_plan_line(begun, order, chamber, start, &mut own);
+    write_line(line, &own, buffer)
 }

@@ -19,7 +19,8 @@ use Rattle.book.specs.declared.Book.{Book}
 use Rattle.book.specs.declared.Answer.{Answer}
 use Rattle.book.specs.declared.Answer.the-variants.{Yes, No, Refused}
 use Rattle.orders.specs.Answers.{opening, orderLines, answersFrom, refusedLine}
-use Rattle.replies.specs.Replies.{lineWith, answerFields, replyLine, sumLine, numbered, repliesFrom, repliesBy, replyOf}
+use Rattle.writer.specs.Line.{lineWith}
+use Rattle.replies.specs.Replies.{answerFields, replyLine, sumLine, numbered, repliesFrom, repliesBy, replyOf}
 
 -- a clean text has no line end in it, and neither have clean fields with tabs between
 clean-unbroken : (text : List ℕ) → isClean text ≡ true → Unbroken text

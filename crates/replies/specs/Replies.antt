@@ -9,17 +9,12 @@ use Rattle.ground.specs.Digits.{spelled}
 use Rattle.ground.specs.Text.{bytes}
 use Rattle.classes.specs.Classes.{comma}
 use Rattle.writer.specs.Writing.{hourText}
-use Rattle.texts.specs.Lines.{lineEnd}
+use Rattle.writer.specs.Line.{lineWith}
 use Rattle.texts.specs.Meaning.{joined}
-use Rattle.fields.specs.Meaning.{tabbed}
 use Rattle.book.specs.declared.Book.{Book}
 use Rattle.book.specs.declared.Answer.{Answer}
 use Rattle.book.specs.declared.Answer.the-variants.{Yes, No, Refused}
 use Rattle.orders.specs.Answers.{opening, orderLines, answersFrom, bookAfter, refusedLine}
-
--- fields with a tab between each two and the line end behind
-abbrev pub lineWith : List (List ℕ) → List ℕ
-lineWith fields = tabbed fields ++ lineEnd ∷ []
 
 -- an answer's fields: "`yes`, chamber and start; or `no`; or `bad` and the refusal number"
 abbrev pub answerFields : Answer → List (List ℕ)

@@ -1,26 +1,28 @@
 -- Laws of an hour's text and of what is written of it, over any decimal mark. Assumes nothing.
-use Prim.Native.Nat.{ℕ, _+_, _/_, _≤_, _<_}
+use Prim.Native.Nat.{ℕ, _+_, _/_, _≤_}
 use mathlib.Core.Path.{_≡_, refl, sym, ap, _∙_}
 use mathlib.Core.Bool.{false}
 use mathlib.Core.List.{List}
 use mathlib.Core.Logic.{_↔_, Iff·trans}
-use lib.ListN.{length, take, length-append, length-take}
+use lib.ListN.{length, length-append, length-take}
 use lib.Dec.{leb}
 use native.Mathlib.Omega.{arith}
-use borrow.Author.Tests.{leb-true, leb-false, le-leb, lt-leb}
-use Rattle.ground.specs.Refusal.{Read, right, wrong, check, _>>_}
+use borrow.Author.Tests.{leb-true, le-leb}
+use Rattle.ground.specs.Refusal.{Read, right, check, _>>_}
 use Rattle.ground.specs.Limits.{lastHour}
 use Rattle.ground.specs.Digits.{lastDigit, spelled}
+use Rattle.classes.specs.Classes.{isDigit}
 use Rattle.ground.specs.Buffer.{onto, fitted, lengthOf, bufferAfter}
 use Rattle.ground.proofs.Refusal.{never-right, same-right}
 use Rattle.ground.proofs.Digits.{last-is-digit, spelled-worth, spelled-plain}
 use Rattle.ground.proofs.Writing as writing
-use Rattle.ground.proofs.Buffer.{front-of-onto, written-front}
-use Rattle.classes.specs.Classes.{isDigit}
+use Rattle.ground.proofs.Buffer.{front-of-onto}
 use Rattle.hours.specs.Spelling.{Spells}
 use Rattle.hours.specs.Spelling.Spells.{hundredths}
 use Rattle.hours.specs.Reading.{hourOf}
+use Rattle.classes.specs.Classes.{comma}
 use Rattle.writer.specs.Writing.{hourText, hourWritten, asLength, frontOf, textIn}
+use Rattle.writer.specs.Meaning.{HourText}
 use Rattle.writer.specs.declared.Written.{Written}
 use Rattle.writer.specs.declared.Written.the-variants.{Length, Refused}
 use Rattle.hours.proofs.Spelling.{reads-exactly}
@@ -35,28 +37,14 @@ pub tested : (mark hour : ℕ) → hourWritten mark hour ≡ (check (leb hour la
 unfolding hourWritten
 tested mark hour = refl
 
-module _ (mark hour : ℕ) (buffer : List ℕ) where
-  -- 4 exactly when the hour is above the last
-  pub refused-by-four : (lengthOf (fitted buffer (hourWritten mark hour)) ≡ wrong 4) ↔ (lastHour < hour)
-  refused-by-four =
-      Iff·trans (writing.refused-by-four (leb hour lastHour) (hourText mark hour) buffer (hourWritten mark hour) (tested mark hour))
-      (leb-false hour lastHour, lt-leb hour lastHour)
-
-  -- 7 exactly when the hour is in range and its text has no room
-  pub refused-by-seven :
-      (lengthOf (fitted buffer (hourWritten mark hour)) ≡ wrong 7) ↔ ((hour ≤ lastHour) × (length buffer < length (hourText mark hour)))
-  refused-by-seven =
-      Iff·trans (writing.refused-by-seven (leb hour lastHour) (hourText mark hour) buffer (hourWritten mark hour) (tested mark hour))
-      (λ facts. (leb-true _ _ (facts .0), facts .1), λ facts. (le-leb _ _ (facts .0), facts .1))
-
-  -- the text is written exactly when the hour is in range and there is room
-  pub written-exactly :
-      (bytes : List ℕ)
-      → (fitted buffer (hourWritten mark hour) ≡ right bytes)
-      ↔ ((hour ≤ lastHour) × (length (hourText mark hour) ≤ length buffer) × (bytes ≡ hourText mark hour))
-  written-exactly bytes =
-      Iff·trans (writing.written-exactly (leb hour lastHour) (hourText mark hour) buffer (hourWritten mark hour) (tested mark hour) bytes)
-      (λ facts. (leb-true _ _ (facts .0), facts .1, facts .2), λ facts. (le-leb _ _ (facts .0), facts .1, facts .2))
+-- the text is written exactly when the hour is in range and there is room
+pub written-exactly :
+    (mark hour : ℕ) (buffer bytes : List ℕ)
+    → (fitted buffer (hourWritten mark hour) ≡ right bytes)
+    ↔ ((hour ≤ lastHour) × (length (hourText mark hour) ≤ length buffer) × (bytes ≡ hourText mark hour))
+written-exactly mark hour buffer bytes =
+    Iff·trans (writing.written-exactly (leb hour lastHour) (hourText mark hour) buffer (hourWritten mark hour) (tested mark hour) bytes)
+    (λ facts. (leb-true _ _ (facts .0), facts .1, facts .2), λ facts. (le-leb _ _ (facts .0), facts .1, facts .2))
 
 -- an hour's text spells it
 text-spells : (mark hour : ℕ) → hour ≤ lastHour → Spells mark (hourText mark hour) hour
@@ -64,6 +52,21 @@ unfolding hourText
 text-spells mark hour within =
     hundredths (spelled (hour / 100)) (lastDigit (hour / 10)) (lastDigit hour) (spelled-plain (hour / 100) (omega arith)) (last-is-digit (hour / 10))
     (last-is-digit hour) refl (omega (arith, spelled-worth (hour / 100)))
+
+-- at the comma it is a plain whole part, the comma and two digits
+pub hour-text : (hour : ℕ) → hour ≤ lastHour → HourText hour (hourText comma hour)
+unfolding hourText
+hour-text hour within =
+    record {
+      whole = spelled (hour / 100);
+      tenth = lastDigit (hour / 10);
+      hundredth = lastDigit hour;
+      stands = refl;
+      plain = spelled-plain (hour / 100) (omega arith);
+      tenth-digit = (omega arith, omega arith);
+      hundredth-digit = (omega arith, omega arith);
+      spells = text-spells comma hour within;
+    }
 
 module _ (mark : ℕ) (unlike : isDigit mark ≡ false) where
   -- reading an hour's text gives the hour
@@ -74,14 +77,6 @@ module _ (mark : ℕ) (unlike : isDigit mark ≡ false) where
   pub texts-differ : (hour other : ℕ) → hour ≤ lastHour → other ≤ lastHour → hourText mark hour ≡ hourText mark other → hour ≡ other
   texts-differ hour other within too same =
       same-right (sym (reads-back hour within) ∙ ap (hourOf mark) same ∙ reads-back other too)
-
-  -- what stands at the front of the buffer after a writing reads as the hour
-  pub written-reads-back :
-      (hour : ℕ) (buffer : List ℕ) (count : ℕ) → lengthOf (fitted buffer (hourWritten mark hour)) ≡ right count
-      → hourOf mark (take count (bufferAfter buffer (fitted buffer (hourWritten mark hour)))) ≡ right hour
-  written-reads-back hour buffer count done =
-      let p = written-exactly mark hour buffer _ .0 (written-front buffer (fitted buffer (hourWritten mark hour)) count done) in
-      ap (hourOf mark) (p .2) ∙ reads-back hour (p .0)
 
 -- what was written, to whatever buffer it fits, is the text that stands in it
 pub written-stands :

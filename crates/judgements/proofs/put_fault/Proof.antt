@@ -1,13 +1,13 @@
--- `put_fault` puts its four fields one behind the other, each where the one before it ends.
+-- `put_fault` puts its four fields one behind the other.
 use Prim.Native.Nat.{_≤_}
-use lib.ListN.{length, length-append}
+use lib.ListN.{length}
 use native.Mathlib.Omega.{arith}
 use borrow.Author.Needs.{needs}
 use Rattle.ground.specs.Digits.{spelled}
 use Rattle.ground.specs.Text.{bytes}
-use Rattle.pieces.proofs.Placing.{put-roomy, put-length, put-both}
-use Rattle.replies.proofs.Replying.{number-short}
-use Rattle.judgements.proofs.JudgementLine.{word-short, fault-pieces}
+use Rattle.writer.specs.Line.{bytesOfAll}
+use Rattle.writer.proofs.Line.{then-put, last-put, number-short}
+use Rattle.judgements.proofs.JudgementLine.{word-short}
 use Rattle.judgements.proofs.put_fault.Statement.{statement}
 use Rattle.judgements.proofs.put_fault.Tie as tie
 
@@ -34,26 +34,19 @@ same-length : tie.Need-same-length
 same-length c = search needs
 
 returns : tie.Need-returns
-unfolding bytes
+unfolding bytes bytesOfAll
 returns c =
     let ended = c .before .before in
-    let texted = ended .before .before .before .before in
-    let numbered = texted .before .before .before .before in
-    let named = numbered .before .before .before .before in
-    let s = named .before .before .before .before in
-    let fault = s .args .fault in
+    let named = ended .before .before .before .before in
+    let numbered = named .before .before .before .before in
+    let worded = numbered .before .before .before .before in
+    let s = worded .before .before .before .before in
     let short = numbers-short s in
-    let word-sized = word-short (fault .plan) in
-    let word = put-roomy 0 _ (s .args .printed .now) (omega arith) (named .put-word .ensures) in
-    let number =
-    put-roomy (named .put-word .result) _ _ (simp length-append (omega (arith, put-length word))) (numbered .put-number .ensures) in
-    let front = put-both word number in
-    let text =
-    put-roomy (numbered .put-number .result) _ _ (simp length-append (omega (arith, put-length front, simp length-append at (front .past)))) (texted .put-text .ensures) in
-    let most = put-both front text in
-    let line =
-    put-roomy (texted .put-text .result) _ _ (simp length-append (omega (arith, put-length most, simp length-append at (most .past)))) (ended .put-number2 .ensures) in
-    rw (← fault-pieces fault) (put-both most line)
+    (
+      then-put _ _ _ (worded .put-word .ensures)
+          (then-put _ _ _ (numbered .put-number .ensures) (then-put _ _ _ (named .put-text .ensures) (last-put _ _ _ (ended .put-number2 .ensures)))),
+      omega (arith, word-short (s .args .fault .plan)),
+    )
 
 pub put-fault-spec : {M : Type 1} → statement M
 put-fault-spec =

@@ -19,13 +19,17 @@ same-length : tie.Need-same-length
 same-length c = search needs
 
 returns : tie.Need-returns
-returns c = let p = c .before .before in rw (p .before .before .before .judgement .given .1) (p .put-right .ensures)
+returns c =
+    let p = c .before .before in
+    rw (p .before .before .before .judgement .given .1) (p .put-right .ensures)
 
 same-length-2 : tie.Need-same-length-2
 same-length-2 c = search needs
 
 returns-2 : tie.Need-returns-2
-returns-2 c = let p = c .before .before in rw (p .before .before .before .judgement2 .given .1) (p .put-fault .ensures)
+returns-2 c =
+    let p = c .before .before in
+    rw (p .before .before .before .judgement2 .given .1) (p .put-fault .ensures)
 
 pub put-judgement-spec : {M : Type 1} → statement M
 put-judgement-spec =

@@ -1,9 +1,8 @@
--- `write_judgement` writes the line that was put in its own room.
-use mathlib.Core.Path.{sym}
-use lib.Seq.{length-take-le}
-use native.Mathlib.Omega.{arith}
+-- `write_judgement` writes the line that was put together in its own buffer.
 use borrow.Author.Needs.{needs}
-use Rattle.pieces.proofs.Placing.{put-front}
+use Rattle.ground.specs.Refusal.{right}
+use Rattle.writer.proofs.Line.{line-put}
+use Rattle.judgements.proofs.JudgementLine.{judgement-of-fields}
 use Rattle.judgements.proofs.write_judgement.Statement.{statement}
 use Rattle.judgements.proofs.write_judgement.Tie as tie
 
@@ -13,20 +12,24 @@ slice-aggregate-put-judgement c = search needs
 put-judgement-requires : tie.Need-put-judgement-requires
 put-judgement-requires c κs = search needs
 
-array-share-prefix-printed : tie.Need-array-share-prefix-printed
-array-share-prefix-printed c = search needs
+slice-aggregate-write-line : tie.Need-slice-aggregate-write-line
+slice-aggregate-write-line c = search needs
 
-slice-aggregate-write-text : tie.Need-slice-aggregate-write-text
-slice-aggregate-write-text c = sym (length-take-le _ _ (omega arith))
-
-write-text-requires : tie.Need-write-text-requires
-write-text-requires c κs = search needs
+write-line-requires : tie.Need-write-line-requires
+write-line-requires c κs = search needs
 
 same-length : tie.Need-same-length
 same-length c = search needs
 
 returns : tie.Need-returns
-returns c = let w = c .before .before in rw (← put-front (w .before .before .before .before .put-judgement .ensures)) (w .write-text .ensures)
+returns c =
+    let w = c .before .before in
+    let p = w .before .before .before .before in
+    let a = p .before .before .before .args in
+    rw (
+      judgement-of-fields (a .judgement),
+      ← line-put (right tt) _ _ _ (p .put-judgement .ensures .1) (p .put-judgement .ensures .0),
+    ) (w .write-line .ensures)
 
 pub write-judgement-spec : {M : Type 1} → statement M
 write-judgement-spec =
@@ -34,8 +37,7 @@ write-judgement-spec =
     (tie.spec
     slice-aggregate-put-judgement
     put-judgement-requires
-    array-share-prefix-printed
-    slice-aggregate-write-text
-    write-text-requires
+    slice-aggregate-write-line
+    write-line-requires
     same-length
     returns)

@@ -1,76 +1,56 @@
--- `write_plan_line` is refused by the checks in their order, and with no refusal it fills just as much of the buffer as the text is long.
-use Prim.Native.Nat.{_≤_}
+-- `write_plan_line` writes the line that was put together in its own buffer.
 use mathlib.Core.Path.{sym, _∙_}
-use lib.ListN.{length}
-use lib.Seq.{length-take-le}
 use native.Mathlib.Omega.{arith}
 use borrow.Author.Needs.{needs}
-use Rattle.ground.proofs.Writing.{Checked, refused, holds, has-room, filled}
-use Rattle.planlines.specs.Writing.{inRange, planText, planWritten}
-use Rattle.planlines.proofs.PlanLine.{tested, ranges-hold}
+use Rattle.writer.specs.Line.{bytesOfAll}
+use Rattle.writer.proofs.Line.{line-put, line-written, number-short, hour-short}
+use Rattle.planlines.specs.Writing.{placesChecked, planWritten}
+use Rattle.planlines.proofs.PlanLine.{line-of-fields}
 use Rattle.planlines.proofs.write_plan_line.Statement.{statement}
 use Rattle.planlines.proofs.write_plan_line.Tie as tie
 
--- what is known once the checks are made
-known-at :
-    (c : tie.After-writing-refusal)
-    → let a = c .before .before .before .before .args in
-    Checked (inRange (a .order) (a .chamber) (a .start)) (planText (a .order) (a .chamber) (a .start)) (a .buffer .now)
-    (planWritten (a .order) (a .chamber) (a .start)) (c .before .before .text-length .result) (c .writing-refusal .result)
-known-at c =
-    let a = c .before .before .before .before .args in
-    record {
-      tested = tested (a .order) (a .chamber) (a .start);
-      counted = c .before .before .text-length .ensures;
-      checked = rw (← c .before .in-range .ensures) (c .writing-refusal .ensures);
-    }
-
-text-length-requires : tie.Need-text-length-requires
-text-length-requires c κs = search needs
-
-in-range-requires : tie.Need-in-range-requires
-in-range-requires c κs = search needs
-
-writing-refusal-requires : tie.Need-writing-refusal-requires
-writing-refusal-requires c κs = search needs
-
-returns : tie.Need-returns
-returns c = refused (known-at (c .before)) (λ none. omega arith)
-
--- past the refusals there is room
-room-at : (c : tie.Else1) → c .before .before .before .text-length .result ≤ length (c .before .before .before .before .before .args .buffer .now)
-room-at c = has-room (known-at (c .before)) (omega arith)
-
-slice-relend-prefix-put-plan-line : tie.Need-slice-relend-prefix-put-plan-line
-slice-relend-prefix-put-plan-line c = room-at c
+begin-plan-line-requires : tie.Need-begin-plan-line-requires
+begin-plan-line-requires c κs = search needs
 
 slice-aggregate-put-plan-line : tie.Need-slice-aggregate-put-plan-line
-slice-aggregate-put-plan-line c = sym (length-take-le _ _ (room-at (c .before)))
+slice-aggregate-put-plan-line c = search needs
 
 put-plan-line-requires : tie.Need-put-plan-line-requires
-put-plan-line-requires c κs =
-    let k = c .before .before in
-    let a = k .before .before .before .before .args in
-    (ranges-hold (a .order) (a .chamber) (a .start) (holds (known-at k) (omega arith)) .start-hour, length-take-le _ _ (room-at (c .before)) ∙ known-at k .counted)
+put-plan-line-requires c κs = search needs
+
+slice-aggregate-write-line : tie.Need-slice-aggregate-write-line
+slice-aggregate-write-line c = search needs
+
+write-line-requires : tie.Need-write-line-requires
+write-line-requires c κs = search needs
 
 same-length : tie.Need-same-length
 same-length c = search needs
 
-returns-2 : tie.Need-returns-2
-returns-2 c =
-    filled (known-at (c .before .before .before .before .before)) (omega (arith, c .before .before .before .before .if1 .left))
-    (c .before .before .put-plan-line .ensures)
+returns : tie.Need-returns
+unfolding bytesOfAll
+returns c =
+    let w = c .before .before in
+    let p = w .before .before .before .before in
+    let b = p .before .before in
+    let a = b .before .before .args in
+    let written =
+    line-written (a .buffer .now) _ (planWritten (a .order) (a .chamber) (a .start))
+    (line-put (placesChecked (a .order) (a .chamber)) _ _ _
+    (omega (arith, number-short (a .order) (omega arith), number-short (a .chamber) (omega arith), hour-short (a .start)))
+    (rw (b .begin-plan-line .ensures) at (p .put-plan-line .ensures))
+    ∙ sym (line-of-fields (a .order) (a .chamber) (a .start)))
+    (w .write-line .ensures) in
+    search (needs, written .0, written .1)
 
 pub write-plan-line-spec : {M : Type 1} → statement M
 write-plan-line-spec =
     tie.close
     (tie.spec
-    text-length-requires
-    in-range-requires
-    writing-refusal-requires
-    returns
-    slice-relend-prefix-put-plan-line
+    begin-plan-line-requires
     slice-aggregate-put-plan-line
     put-plan-line-requires
+    slice-aggregate-write-line
+    write-line-requires
     same-length
-    returns-2)
+    returns)

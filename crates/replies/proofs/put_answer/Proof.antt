@@ -1,14 +1,9 @@
 -- `put_answer` puts the fields of the answer that it has.
-use Prim.Native.Nat.{_≤_}
 use native.Mathlib.Omega.{arith}
 use borrow.Author.Needs.{needs}
-use borrow.Author.Tests.{leb-true}
-use Rattle.ground.specs.Limits.{lastHour}
 use Rattle.ground.specs.Text.{bytes}
-use Rattle.texts.specs.Lines.{lineEnd}
-use Rattle.pieces.specs.Placing.{stopped}
-use Rattle.pieces.proofs.Placing.{put-roomy}
-use Rattle.replies.proofs.Replying.{no-piece}
+use Rattle.writer.specs.Line.{bytesOfAll}
+use Rattle.writer.proofs.Line.{last-put}
 use Rattle.replies.proofs.put_answer.Statement.{statement}
 use Rattle.replies.proofs.put_answer.Tie as tie
 
@@ -16,10 +11,7 @@ enum-known-answer : tie.Need-enum-known-answer
 enum-known-answer c = search needs
 
 put-yes-requires : tie.Need-put-yes-requires
-put-yes-requires c κs =
-    let k = c .before .before in
-    let within : k .answer .given .0 .1 .0 ≤ lastHour = leb-true _ _ (rw (k .answer .given .1) at (k .before .before .before .pre .0)) in
-    (omega arith, omega arith)
+put-yes-requires c κs = search needs
 
 enum-told : tie.Need-enum-told
 enum-told c = search needs
@@ -40,24 +32,26 @@ same-length : tie.Need-same-length
 same-length c = search needs
 
 returns : tie.Need-returns
-returns c = let p = c .before .before in rw (p .before .before .before .answer .given .1) (p .put-yes .ensures)
+returns c =
+    let p = c .before .before in
+    rw (p .before .before .before .answer .given .1) (p .put-yes .ensures)
 
 same-length-2 : tie.Need-same-length-2
 same-length-2 c = search needs
 
 returns-2 : tie.Need-returns-2
-unfolding bytes
+unfolding bytes bytesOfAll
 returns-2 c =
     let p = c .before .before in
-    let told = p .before .before .before in
-    let a = told .before .before .before .args in
-    rw (told .enum-told .given .1, ← no-piece) (put-roomy (a .at) (stopped (bytes "no") lineEnd) (a .reply .now) (omega arith) (p .put-word .ensures))
+    rw (p .before .before .before .enum-told .given .1) (last-put _ _ _ (p .put-word .ensures), omega arith)
 
 same-length-3 : tie.Need-same-length-3
 same-length-3 c = search needs
 
 returns-3 : tie.Need-returns-3
-returns-3 c = let p = c .before .before in rw (p .before .before .before .answer2 .given .1) (p .put-bad .ensures)
+returns-3 c =
+    let p = c .before .before in
+    rw (p .before .before .before .answer2 .given .1) (p .put-bad .ensures)
 
 pub put-answer-spec : {M : Type 1} → statement M
 put-answer-spec =

@@ -1,10 +1,9 @@
--- `put_bad` puts its two fields one behind the other, the second where the first ends.
-use lib.ListN.{length-append}
+-- `put_bad` puts its two fields one behind the other.
 use native.Mathlib.Omega.{arith}
 use borrow.Author.Needs.{needs}
 use Rattle.ground.specs.Text.{bytes}
-use Rattle.pieces.proofs.Placing.{put-roomy, put-length, put-both}
-use Rattle.replies.proofs.Replying.{number-short, bad-pieces}
+use Rattle.writer.specs.Line.{bytesOfAll}
+use Rattle.writer.proofs.Line.{then-put, last-put, number-short}
 use Rattle.replies.proofs.put_bad.Statement.{statement}
 use Rattle.replies.proofs.put_bad.Tie as tie
 
@@ -21,16 +20,17 @@ same-length : tie.Need-same-length
 same-length c = search needs
 
 returns : tie.Need-returns
-unfolding bytes
+unfolding bytes bytesOfAll
 returns c =
     let numbered = c .before .before in
-    let named = numbered .before .before .before .before in
-    let s = named .before .before .before .before in
-    let short = number-short (s .args .number) (omega arith) in
-    let word = put-roomy (s .args .at) _ (s .args .reply .now) (omega arith) (named .put-word .ensures) in
-    let number =
-    put-roomy (named .put-word .result) _ _ (simp length-append (omega (arith, put-length word))) (numbered .put-number .ensures) in
-    rw (← bad-pieces (s .args .number)) (put-both word number)
+    let worded = numbered .before .before .before .before in
+    let a = worded .before .before .before .before .args in
+    (
+      then-put _ _ _ (worded .put-word .ensures) (last-put _ _ _ (numbered .put-number .ensures)),
+      omega (arith, number-short (a .number) (omega arith)),
+    )
 
 pub put-bad-spec : {M : Type 1} → statement M
-put-bad-spec = tie.close (tie.spec slice-aggregate-put-word put-word-requires put-number-requires same-length returns)
+put-bad-spec =
+    tie.close
+    (tie.spec slice-aggregate-put-word put-word-requires put-number-requires same-length returns)

@@ -1,12 +1,9 @@
--- `put_yes` puts its three fields one behind the other, each where the one before it ends.
-use Prim.Native.Nat.{_≤_}
-use lib.ListN.{length-append}
+-- `put_yes` puts its three fields one behind the other.
 use native.Mathlib.Omega.{arith}
 use borrow.Author.Needs.{needs}
-use Rattle.ground.specs.Limits.{lastHour}
 use Rattle.ground.specs.Text.{bytes}
-use Rattle.pieces.proofs.Placing.{put-roomy, put-length, put-both, hour-within}
-use Rattle.replies.proofs.Replying.{number-short, hour-short, yes-pieces}
+use Rattle.writer.specs.Line.{bytesOfAll}
+use Rattle.writer.proofs.Line.{then-put, last-put, number-short, hour-short}
 use Rattle.replies.proofs.put_yes.Statement.{statement}
 use Rattle.replies.proofs.put_yes.Tie as tie
 
@@ -26,22 +23,16 @@ same-length : tie.Need-same-length
 same-length c = search needs
 
 returns : tie.Need-returns
-unfolding bytes
+unfolding bytes bytesOfAll
 returns c =
     let timed = c .before .before in
-    let numbered = timed .before .before .before .before in
-    let named = numbered .before .before .before .before in
-    let s = named .before .before .before .before in
-    let within : s .args .start ≤ lastHour = s .pre .0 in
-    let chamber-short = number-short (s .args .chamber) (omega arith) in
-    let start-short = hour-short (s .args .start) within in
-    let word = put-roomy (s .args .at) _ (s .args .reply .now) (omega arith) (named .put-word .ensures) in
-    let chamber =
-    put-roomy (named .put-word .result) _ _ (simp length-append (omega (arith, put-length word))) (numbered .put-number .ensures) in
-    let start =
-    put-roomy (numbered .put-number .result) _ _ (simp length-append (omega (arith, put-length word, put-length chamber, simp length-append at (chamber .past))))
-    (rw hour-within at (timed .put-hour .ensures)) in
-    rw (← yes-pieces (s .args .chamber) (s .args .start)) (put-both (put-both word chamber) start)
+    let housed = timed .before .before .before .before in
+    let worded = housed .before .before .before .before in
+    let a = worded .before .before .before .before .args in
+    (
+      then-put _ _ _ (worded .put-word .ensures) (then-put _ _ _ (housed .put-number .ensures) (last-put _ _ _ (timed .put-hour .ensures))),
+      omega (arith, number-short (a .chamber) (omega arith), hour-short (a .start)),
+    )
 
 pub put-yes-spec : {M : Type 1} → statement M
 put-yes-spec =

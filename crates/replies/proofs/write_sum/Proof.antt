@@ -1,9 +1,11 @@
--- `write_sum` writes the line that was put in its own room.
-use mathlib.Core.Path.{sym}
-use lib.Seq.{length-take-le}
+-- `write_sum` writes the sum that was put together in its own buffer.
 use native.Mathlib.Omega.{arith}
 use borrow.Author.Needs.{needs}
-use Rattle.pieces.proofs.Placing.{put-front}
+use Rattle.ground.specs.Refusal.{right}
+use Rattle.ground.specs.Text.{bytes}
+use Rattle.writer.specs.Line.{bytesOfAll}
+use Rattle.writer.proofs.Line.{line-put, number-short}
+use Rattle.replies.proofs.Replying.{sum-of-fields}
 use Rattle.replies.proofs.write_sum.Statement.{statement}
 use Rattle.replies.proofs.write_sum.Tie as tie
 
@@ -13,20 +15,25 @@ slice-aggregate-put-sum c = search needs
 put-sum-requires : tie.Need-put-sum-requires
 put-sum-requires c κs = search needs
 
-array-share-prefix-reply : tie.Need-array-share-prefix-reply
-array-share-prefix-reply c = search needs
+slice-aggregate-write-line : tie.Need-slice-aggregate-write-line
+slice-aggregate-write-line c = search needs
 
-slice-aggregate-write-text : tie.Need-slice-aggregate-write-text
-slice-aggregate-write-text c = sym (length-take-le _ _ (omega arith))
-
-write-text-requires : tie.Need-write-text-requires
-write-text-requires c κs = search needs
+write-line-requires : tie.Need-write-line-requires
+write-line-requires c κs = search needs
 
 same-length : tie.Need-same-length
 same-length c = search needs
 
 returns : tie.Need-returns
-returns c = let w = c .before .before in rw (← put-front (w .before .before .before .before .put-sum .ensures)) (w .write-text .ensures)
+unfolding bytesOfAll bytes
+returns c =
+    let w = c .before .before in
+    let p = w .before .before .before .before in
+    let a = p .before .before .before .args in
+    rw (
+      sum-of-fields (a .taken) (a .kept),
+      ← line-put (right tt) _ _ _ (omega (arith, number-short (a .taken) (omega arith), number-short (a .kept) (omega arith))) (p .put-sum .ensures),
+    ) (w .write-line .ensures)
 
 pub write-sum-spec : {M : Type 1} → statement M
 write-sum-spec =
@@ -34,8 +41,7 @@ write-sum-spec =
     (tie.spec
     slice-aggregate-put-sum
     put-sum-requires
-    array-share-prefix-reply
-    slice-aggregate-write-text
-    write-text-requires
+    slice-aggregate-write-line
+    write-line-requires
     same-length
     returns)

@@ -1,5 +1,5 @@
 -- `front` is so much of the buffer, where there is so much.
-use mathlib.Core.Path.{sym}
+use mathlib.Core.Path.{refl, sym}
 use lib.ListN.{length}
 use lib.Seq.{length-take-le}
 use native.Mathlib.Omega.{arith}
@@ -16,7 +16,7 @@ returns : tie.Need-returns
 unfolding frontOf
 returns c =
     let a = c .before .before .args in
-    simp (le-leb (a .count) (length (a .buffer .now)) (omega (arith, c .before .if1 .taken)))
+    (simp (le-leb (a .count) (length (a .buffer .now)) (omega (arith, c .before .if1 .taken))), (refl, omega arith))
 
 slice-aggregate-result-2 : tie.Need-slice-aggregate-result-2
 slice-aggregate-result-2 c = search needs
@@ -25,7 +25,7 @@ returns-2 : tie.Need-returns-2
 unfolding frontOf
 returns-2 c =
     let a = c .before .before .args in
-    simp (lt-leb (a .count) (length (a .buffer .now)) (omega (arith, c .before .if1 .left)))
+    (simp (lt-leb (a .count) (length (a .buffer .now)) (omega (arith, c .before .if1 .left))), (refl, omega arith))
 
 pub front-spec : {M : Type 1} → statement M
 front-spec = tie.close (tie.spec slice-aggregate-result returns slice-aggregate-result-2 returns-2)

@@ -1,123 +1,122 @@
--- `put_hour` fills its buffer piece after piece: the whole hours, the comma, the two digits.
-use Prim.Native.Nat.{ℕ, _+_, _-_, _/_, _≤_}
-use mathlib.Core.Path.{_≡_, sym, ap, _∙_}
-use mathlib.Core.List.{List, [], _∷_, _++_, append-assoc}
-use lib.ListN.{length, take, drop, set, length-append}
-use lib.Seq.{length-take-le}
+-- `put_hour` lends an hour's text a part that is as long as it is, and stores the byte that stops it behind it.
+use Prim.Native.Nat.{_+_, _/_, _≤_}
+use mathlib.Core.Path.{refl, sym, _∙_}
 use native.Mathlib.Omega.{arith}
+use borrow.Author.Tests.{ltb-true, ltb-false}
 use borrow.Author.Needs.{needs}
-use borrow.Rule.Slice.PartMut.{putMid, midOf}
-use Rattle.ground.specs.Digits.{lastDigits}
-use Rattle.ground.specs.Buffer.{onto}
-use Rattle.ground.proofs.Digits.{length-last-digits}
-use Rattle.ground.proofs.Buffer.{length-of-onto, onto-all, onto-byte, front-filled, part-filled}
+use Rattle.ground.specs.Limits.{lastHour}
+use Rattle.ground.proofs.Digits.{spelled-short}
 use Rattle.classes.specs.Classes.{comma}
+use Rattle.writer.specs.Writing.{hourText}
+use Rattle.writer.specs.Line.{frontAfter}
+use Rattle.writer.proofs.Writing.{length-of-text}
+use Rattle.writer.proofs.Line.{field-stays, Fits, part-sized, field-put, hour-within, hour-above, hour-fills}
 use Rattle.writer.proofs.put_hour.Statement.{statement}
 use Rattle.writer.proofs.put_hour.Tie as tie
 
-module _ (hour : ℕ) (entry one : List ℕ) (room : 3 ≤ length entry) (first : one ≡ lastDigits (length (take (length entry - 3) entry)) (hour / 100)) where
-  -- the whole hours and the mark
-  abbrev front : List ℕ
-  front = lastDigits (length entry - 3) (hour / 100) ++ comma ∷ []
+-- past the tests there is room
+fits-at :
+    (c : tie.Then2)
+    → let d = c .before .before in
+    let p = d .before .before .before in
+    let a = p .before .before .before .args in
+    Fits (p .so-far .given .0 .0) (hourText comma (a .hour)) (a .stop) (a .buffer .now) (d .digit-count .result + 3)
+fits-at c =
+    let d = c .before .before in
+    let a = d .before .before .before .before .before .before .args in
+    record {
+      counted = omega (arith, length-of-text comma (a .hour), d .digit-count .ensures);
+      room = ltb-true _ _ (sym (c .before .has-room .ensures) ∙ c .if2 .taken);
+    }
 
-  front-length : length front ≡ length entry - 3 + 1
-  front-length = simp (length-append, length-last-digits)
+enum-known-so-far : tie.Need-enum-known-so-far
+enum-known-so-far c = search needs
 
-  -- the buffer with them
-  abbrev marked : List ℕ
-  marked = set (one ++ drop (length entry - 3) entry) (length entry - 3) comma
-
-  marked-is : marked ≡ onto front entry
-  marked-is =
-      ap (λ (buffer : List ℕ). set buffer (length entry - 3) comma)
-      (front-filled (λ count. lastDigits count (hour / 100)) (λ count. length-last-digits count (hour / 100)) one entry (length entry - 3) (omega arith)
-      first)
-      ∙ onto-byte (lastDigits (length entry - 3) (hour / 100)) entry (length entry - 3) comma (sym (length-last-digits (length entry - 3) (hour / 100)))
-      (omega arith)
-
-  marked-length : length marked ≡ length entry
-  marked-length = ap length marked-is ∙ length-of-onto front entry (omega (arith, front-length))
-
-  -- and with the two digits
-  module _ (two : List ℕ)
-      (second : two ≡ lastDigits (length (midOf (length entry - 3 + 1) (length entry - (length entry - 3 + 1)) marked)) hour) where
-    filled :
-        putMid (length entry - 3 + 1) (length entry - (length entry - 3 + 1)) marked two
-        ≡ lastDigits (length entry - 3) (hour / 100) ++ comma ∷ lastDigits 2 hour
-    filled =
-        let size : length entry - (length entry - 3 + 1) ≡ 2 = omega arith in
-        rw marked-is
-        (part-filled (λ count. lastDigits count hour) (λ count. length-last-digits count hour) two entry front (length entry - 3 + 1) (length entry)
-        (sym front-length) (omega arith) (omega arith) (rw marked-is at second)
-        ∙ rw size
-        (onto-all (front ++ lastDigits 2 hour) entry (simp (length-append, length-last-digits) (omega arith))
-        ∙ append-assoc (lastDigits (length entry - 3) (hour / 100)) (comma ∷ []) (lastDigits 2 hour)))
-
-    filled-length : length (putMid (length entry - 3 + 1) (length entry - (length entry - 3 + 1)) marked two) ≡ length entry
-    filled-length = ap length filled ∙ simp (length-append, length-last-digits) (omega arith)
-
-sub-mark : tie.Need-sub-mark
-sub-mark c = search needs
-
-add-tenth : tie.Need-add-tenth
-add-tenth c = search needs
-
-slice-relend-prefix-put-digits : tie.Need-slice-relend-prefix-put-digits
-slice-relend-prefix-put-digits c = search needs
-
-slice-aggregate-put-digits : tie.Need-slice-aggregate-put-digits
-slice-aggregate-put-digits c = let b = c .before .before .args .buffer .now in sym (length-take-le (length b - 3) b (omega arith))
-
-put-digits-requires : tie.Need-put-digits-requires
-put-digits-requires c κs = search needs
-
-slice-write-buffer : tie.Need-slice-write-buffer
-slice-write-buffer c = search needs
-
-sub-put-digits : tie.Need-sub-put-digits
-sub-put-digits c = search needs
-
-part-put-digits-start : tie.Need-part-put-digits-start
-part-put-digits-start c = search needs
-
-part-put-digits-end : tie.Need-part-put-digits-end
-part-put-digits-end c =
-    let s = c .before .before .before .before .before in
-    omega (
-      arith,
-      marked-length (s .args .hour) (s .args .buffer .now) (c .before .before .put-digits .last .1 .0) (s .pre) (c .before .before .put-digits .ensures),
-    )
-
-put-digits-requires-2 : tie.Need-put-digits-requires-2
-put-digits-requires-2 c κs = search needs
-
-same-length : tie.Need-same-length
-same-length c =
-    let s = c .before .before .before .before .before .before .before .before .before in
-    filled-length (s .args .hour) (s .args .buffer .now) (c .before .before .before .before .before .before .put-digits .last .1 .0) (s .pre)
-    (c .before .before .before .before .before .before .put-digits .ensures) (c .before .before .put-digits2 .last .1 .0)
-    (c .before .before .put-digits2 .ensures)
+enum-told : tie.Need-enum-told
+enum-told c = search needs
 
 returns : tie.Need-returns
-returns c =
-    let s = c .before .before .before .before .before .before .before .before .before in
-    filled (s .args .hour) (s .args .buffer .now) (c .before .before .before .before .before .before .put-digits .last .1 .0) (s .pre)
-    (c .before .before .before .before .before .before .put-digits .ensures) (c .before .before .put-digits2 .last .1 .0)
-    (c .before .before .put-digits2 .ensures)
+unfolding frontAfter
+returns c = rw (c .enum-told .given .1) (refl, refl)
+
+returns-2 : tie.Need-returns-2
+unfolding frontAfter
+returns-2 c = 
+    let p = c .before .before in
+    let a = p .before .before .before .args in
+    rw (p .so-far .given .1, hour-above (a .hour) (omega (arith, c .if1 .taken))) (refl, refl)
+
+digit-count-requires : tie.Need-digit-count-requires
+digit-count-requires c κs = search needs
+
+add-length : tie.Need-add-length
+add-length c = omega (arith, spelled-short (c .before .before .before .before .before .before .args .hour / 100))
+
+has-room-requires : tie.Need-has-room-requires
+has-room-requires c κs = search needs
+
+add-hour-end : tie.Need-add-hour-end
+add-hour-end c = omega (arith, fits-at c .room)
+
+sub-write-hour : tie.Need-sub-write-hour
+sub-write-hour c = search needs
+
+part-write-hour-start : tie.Need-part-write-hour-start
+part-write-hour-start c = search needs
+
+part-write-hour-end : tie.Need-part-write-hour-end
+part-write-hour-end c = omega (arith, fits-at c .room)
+
+write-hour-requires : tie.Need-write-hour-requires
+write-hour-requires c κs = search needs
+
+slice-write-buffer : tie.Need-slice-write-buffer
+slice-write-buffer c = omega (arith, fits-at (c .before .before .before .before) .room)
+
+add-past : tie.Need-add-past
+add-past c = omega (arith, fits-at (c .before .before .before .before) .room)
+
+same-length : tie.Need-same-length
+same-length c = search needs
+
+returns-3 : tie.Need-returns-3
+returns-3 c = 
+    let t = c .before .before .before .before in
+    let e = t .before .before .before in
+    let p = e .before .before in
+    let a = p .before .before .before .args in
+    let within : a .hour ≤ lastHour = omega (arith, e .if1 .left) in
+    rw (p .so-far .given .1, hour-within (a .hour) within)
+    (field-put (fits-at t) (c .before .before .write-hour .ensures .1 ∙ hour-fills (a .hour) _ within (part-sized (fits-at t))) (omega arith) (omega arith))
+
+returns-4 : tie.Need-returns-4
+returns-4 c = 
+    let d = c .before .before in
+    let p = d .before .before .before in
+    let a = p .before .before .before .args in
+    rw (p .so-far .given .1, hour-within (a .hour) (omega (arith, d .before .if1 .left)))
+    (field-stays (p .so-far .given .0 .0) (hourText comma (a .hour)) (a .stop) (a .buffer .now) (d .digit-count .result + 3)
+    (omega (arith, length-of-text comma (a .hour), d .digit-count .ensures))
+    (ltb-false _ _ (sym (c .before .has-room .ensures) ∙ c .if2 .left)))
 
 pub put-hour-spec : {M : Type 1} → statement M
 put-hour-spec =
     tie.close
     (tie.spec
-    sub-mark
-    add-tenth
-    slice-relend-prefix-put-digits
-    slice-aggregate-put-digits
-    put-digits-requires
+    enum-known-so-far
+    enum-told
+    returns
+    returns-2
+    digit-count-requires
+    add-length
+    has-room-requires
+    add-hour-end
+    sub-write-hour
+    part-write-hour-start
+    part-write-hour-end
+    write-hour-requires
     slice-write-buffer
-    sub-put-digits
-    part-put-digits-start
-    part-put-digits-end
-    put-digits-requires-2
+    add-past
     same-length
-    returns)
+    returns-3
+    returns-4)

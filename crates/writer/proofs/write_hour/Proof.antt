@@ -56,14 +56,14 @@ writing-refusal-requires c κs = search needs
 returns : tie.Need-returns
 returns c = refused (known-at (c .before)) (λ none. omega arith)
 
-slice-relend-prefix-put-hour : tie.Need-slice-relend-prefix-put-hour
-slice-relend-prefix-put-hour c = omega (arith, room-at c)
+slice-relend-prefix-fill-hour : tie.Need-slice-relend-prefix-fill-hour
+slice-relend-prefix-fill-hour c = omega (arith, room-at c)
 
-slice-aggregate-put-hour : tie.Need-slice-aggregate-put-hour
-slice-aggregate-put-hour c = sym (length-take-le _ _ (omega (arith, room-at (c .before))))
+slice-aggregate-fill-hour : tie.Need-slice-aggregate-fill-hour
+slice-aggregate-fill-hour c = sym (length-take-le _ _ (omega (arith, room-at (c .before))))
 
-put-hour-requires : tie.Need-put-hour-requires
-put-hour-requires c κs = simp length-take (omega (arith, room-at (c .before)))
+fill-hour-requires : tie.Need-fill-hour-requires
+fill-hour-requires c κs = simp length-take (omega (arith, room-at (c .before)))
 
 same-length : tie.Need-same-length
 same-length c = search needs
@@ -72,7 +72,7 @@ returns-2 : tie.Need-returns-2
 returns-2 c =
     let k = c .before .before .before .before .before in
     filled (known-at k) (omega (arith, c .before .before .before .before .if1 .left))
-    (c .before .before .put-hour .ensures
+    (c .before .before .fill-hour .ensures
     ∙ text-is (k .before .before .before .args .hour) (k .before .digit-count .result) (k .before .before .before .args .buffer .now)
     (k .before .digit-count .ensures) (room-at (c .before .before .before .before)))
 
@@ -84,8 +84,8 @@ write-hour-spec =
     add-length
     writing-refusal-requires
     returns
-    slice-relend-prefix-put-hour
-    slice-aggregate-put-hour
-    put-hour-requires
+    slice-relend-prefix-fill-hour
+    slice-aggregate-fill-hour
+    fill-hour-requires
     same-length
     returns-2)

@@ -1,3 +1,0 @@
--- What the contracts of this room cite.
-pub mod Placing
-pub mod Steps

@@ -1,0 +1,68 @@
+-- `copy` copies byte after byte: the bytes passed stand in the buffer as in the text.
+use Prim.Native.Nat.{ℕ, _+_, _-_, _≤_, _<_}
+use mathlib.Core.Path.{_≡_, sym, _∙_}
+use mathlib.Core.List.{List}
+use native.Mathlib.Numerals.{add-one}
+use native.Mathlib.Omega.{arith}
+use borrow.Author.Needs.{needs}
+use lib.ListN.{length, getD, take, set, length-set}
+use lib.Seq.{take-suc, take-suc-set, take-all}
+use Rattle.writer.proofs.copy.Statement.{statement}
+use Rattle.writer.proofs.copy.Tie as tie
+
+-- one byte more
+copy-step :
+    (text buffer : List ℕ) (at : ℕ) → at < length text → at < length buffer → take at buffer ≡ take at text
+    → take (at + 1) (set buffer at (getD text at 0)) ≡ take (at + 1) text
+copy-step text buffer at inside room same = rw (add-one, take-suc-set buffer at _ room, take-suc text at 0 inside, same)
+
+-- all bytes
+copy-end : (text buffer : List ℕ) (at : ℕ) → length text ≤ at → length buffer ≡ length text → take at buffer ≡ take at text → buffer ≡ text
+copy-end text buffer at past sized same = sym (take-all at buffer (omega arith)) ∙ same ∙ take-all at text past
+
+abbrev Inv-loop : tie.InvT-loop
+Inv-loop text buffer₀ at₀ buffer at = (at ≤ length text) × (length buffer ≡ length text) × (take at buffer ≡ take at text)
+
+abbrev μ-loop : tie.MeasureT-loop
+μ-loop text buffer₀ at₀ buffer at = length text - at
+
+loop-holds : tie.Need-loop-holds Inv-loop μ-loop
+loop-holds c = search needs
+
+shared-slice-read-buffer : tie.Need-shared-slice-read-buffer Inv-loop μ-loop
+shared-slice-read-buffer c = search needs
+
+slice-write-buffer : tie.Need-slice-write-buffer Inv-loop μ-loop
+slice-write-buffer c = search needs
+
+add-at : tie.Need-add-at Inv-loop μ-loop
+add-at c = search needs
+
+loop-less : tie.Need-loop-less Inv-loop μ-loop
+loop-less c = search needs
+
+loop-again : tie.Need-loop-again Inv-loop μ-loop
+loop-again c =
+    let l = c .before .before .loop in
+    (omega arith, simp length-set (l .inv .1), copy-step _ (l .buffer) (l .at) (c .before .loop-test .taken) (omega arith) (l .inv .2))
+
+same-length : tie.Need-same-length Inv-loop μ-loop
+same-length c = search needs
+
+returns : tie.Need-returns Inv-loop μ-loop
+returns c = let l = c .before .loop in copy-end _ (l .buffer) (l .at) (c .loop-test .left) (l .inv .1) (l .inv .2)
+
+pub copy-spec : {M : Type 1} → statement M
+copy-spec =
+    tie.close
+    (tie.spec
+    Inv-loop
+    μ-loop
+    loop-holds
+    shared-slice-read-buffer
+    slice-write-buffer
+    add-at
+    loop-less
+    loop-again
+    same-length
+    returns)

@@ -1,0 +1,98 @@
+-- `put_number` lends the digits a part that is as long as they are, and stores the byte that stops them behind it.
+use mathlib.Core.Path.{refl, sym, ap, _∙_}
+use native.Mathlib.Omega.{arith}
+use borrow.Author.Tests.{ltb-true, ltb-false}
+use borrow.Author.Needs.{needs}
+use Rattle.ground.specs.Digits.{lastDigits, spelled}
+use Rattle.ground.proofs.Digits.{last-digits-spelled}
+use Rattle.writer.specs.Line.{frontAfter}
+use Rattle.writer.proofs.Line.{field-stays, Fits, part-sized, field-put}
+use Rattle.writer.proofs.put_number.Statement.{statement}
+use Rattle.writer.proofs.put_number.Tie as tie
+
+-- past the test there is room
+fits-at :
+    (c : tie.Then1)
+    → let d = c .before .before in
+    let p = d .before .before in
+    let a = p .before .before .before .args in
+    Fits (p .so-far .given .0 .0) (spelled (a .number)) (a .stop) (a .buffer .now) (d .digit-count .result)
+fits-at c = record { counted = c .before .before .digit-count .ensures; room = ltb-true _ _ (sym (c .before .has-room .ensures) ∙ c .if1 .taken) }
+
+enum-known-so-far : tie.Need-enum-known-so-far
+enum-known-so-far c = search needs
+
+enum-told : tie.Need-enum-told
+enum-told c = search needs
+
+returns : tie.Need-returns
+unfolding frontAfter
+returns c = rw (c .enum-told .given .1) (refl, refl)
+
+digit-count-requires : tie.Need-digit-count-requires
+digit-count-requires c κs = search needs
+
+has-room-requires : tie.Need-has-room-requires
+has-room-requires c κs = search needs
+
+add-digits-end : tie.Need-add-digits-end
+add-digits-end c = omega (arith, fits-at c .room)
+
+sub-put-digits : tie.Need-sub-put-digits
+sub-put-digits c = search needs
+
+part-put-digits-start : tie.Need-part-put-digits-start
+part-put-digits-start c = search needs
+
+part-put-digits-end : tie.Need-part-put-digits-end
+part-put-digits-end c = omega (arith, fits-at c .room)
+
+put-digits-requires : tie.Need-put-digits-requires
+put-digits-requires c κs = search needs
+
+slice-write-buffer : tie.Need-slice-write-buffer
+slice-write-buffer c = omega (arith, fits-at (c .before .before .before .before) .room)
+
+add-past : tie.Need-add-past
+add-past c = omega (arith, fits-at (c .before .before .before .before) .room)
+
+same-length : tie.Need-same-length
+same-length c = search needs
+
+returns-2 : tie.Need-returns-2
+returns-2 c = 
+    let t = c .before .before .before .before in
+    let p = t .before .before .before .before in
+    let number = p .before .before .before .args .number in
+    rw (p .so-far .given .1)
+    (field-put (fits-at t) (c .before .before .put-digits .ensures ∙ ap (λ count. lastDigits count number) (part-sized (fits-at t)) ∙ last-digits-spelled number)
+    (omega arith) (omega arith))
+
+returns-3 : tie.Need-returns-3
+returns-3 c = 
+    let d = c .before .before in
+    let p = d .before .before in
+    let a = p .before .before .before .args in
+    rw (p .so-far .given .1)
+    (field-stays (p .so-far .given .0 .0) (spelled (a .number)) (a .stop) (a .buffer .now) (d .digit-count .result) (d .digit-count .ensures)
+    (ltb-false _ _ (sym (c .before .has-room .ensures) ∙ c .if1 .left)))
+
+pub put-number-spec : {M : Type 1} → statement M
+put-number-spec =
+    tie.close
+    (tie.spec
+    enum-known-so-far
+    enum-told
+    returns
+    digit-count-requires
+    has-room-requires
+    add-digits-end
+    sub-put-digits
+    part-put-digits-start
+    part-put-digits-end
+    put-digits-requires
+    slice-write-buffer
+    add-past
+    same-length
+    returns-2
+    returns-3)

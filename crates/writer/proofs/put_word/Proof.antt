@@ -1,0 +1,87 @@
+-- `put_word` lends a word a part that is as long as it is, and stores the byte that stops it behind it.
+use mathlib.Core.Path.{refl, sym, _∙_}
+use lib.ListN.{length}
+use native.Mathlib.Omega.{arith}
+use borrow.Author.Tests.{ltb-true, ltb-false}
+use borrow.Author.Needs.{needs}
+use Rattle.writer.specs.Line.{frontAfter}
+use Rattle.writer.proofs.Line.{field-stays, Fits, part-sized, field-put}
+use Rattle.writer.proofs.put_word.Statement.{statement}
+use Rattle.writer.proofs.put_word.Tie as tie
+
+-- past the test there is room
+fits-at :
+    (c : tie.Then1)
+    → let p = c .before .before .before in
+    let a = p .before .before .before .before .args in
+    Fits (p .so-far .given .0 .0) (a .word .now) (a .stop) (a .buffer .now) (length (a .word .now))
+fits-at c = record { counted = refl; room = ltb-true _ _ (sym (c .before .has-room .ensures) ∙ c .if1 .taken) }
+
+enum-known-so-far : tie.Need-enum-known-so-far
+enum-known-so-far c = search needs
+
+enum-told : tie.Need-enum-told
+enum-told c = search needs
+
+returns : tie.Need-returns
+unfolding frontAfter
+returns c = rw (c .enum-told .given .1) (refl, refl)
+
+has-room-requires : tie.Need-has-room-requires
+has-room-requires c κs = search needs
+
+add-word-end : tie.Need-add-word-end
+add-word-end c = omega (arith, fits-at c .room)
+
+sub-copy : tie.Need-sub-copy
+sub-copy c = search needs
+
+part-copy-start : tie.Need-part-copy-start
+part-copy-start c = search needs
+
+part-copy-end : tie.Need-part-copy-end
+part-copy-end c = omega (arith, fits-at c .room)
+
+copy-requires : tie.Need-copy-requires
+copy-requires c κs = part-sized (fits-at (c .before))
+
+slice-write-buffer : tie.Need-slice-write-buffer
+slice-write-buffer c = omega (arith, fits-at (c .before .before .before .before) .room)
+
+add-past : tie.Need-add-past
+add-past c = omega (arith, fits-at (c .before .before .before .before) .room)
+
+same-length : tie.Need-same-length
+same-length c = search needs
+
+returns-2 : tie.Need-returns-2
+returns-2 c =
+    let t = c .before .before .before .before in
+    rw (t .before .before .before .so-far .given .1) (field-put (fits-at t) (c .before .before .copy .ensures) (omega arith) (omega arith))
+
+returns-3 : tie.Need-returns-3
+returns-3 c =
+    let p = c .before .before .before in
+    let a = p .before .before .before .before .args in
+    rw (p .so-far .given .1)
+    (field-stays (p .so-far .given .0 .0) (a .word .now) (a .stop) (a .buffer .now) (length (a .word .now)) refl
+    (ltb-false _ _ (sym (c .before .has-room .ensures) ∙ c .if1 .left)))
+
+pub put-word-spec : {M : Type 1} → statement M
+put-word-spec =
+    tie.close
+    (tie.spec
+    enum-known-so-far
+    enum-told
+    returns
+    has-room-requires
+    add-word-end
+    sub-copy
+    part-copy-start
+    part-copy-end
+    copy-requires
+    slice-write-buffer
+    add-past
+    same-length
+    returns-2
+    returns-3)

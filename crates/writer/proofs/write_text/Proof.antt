@@ -1,0 +1,45 @@
+-- `write_text` is refused where its text has no room, and fills just as much of the buffer as the text is long.
+use mathlib.Core.Path.{refl, sym}
+use lib.ListN.{length}
+use lib.Seq.{length-take-le}
+use native.Mathlib.Omega.{arith}
+use borrow.Author.Needs.{needs}
+use borrow.Author.Tests.{le-leb, lt-leb}
+use Rattle.ground.specs.Buffer.{onto, fitted}
+use Rattle.writer.proofs.write_text.Statement.{statement}
+use Rattle.writer.proofs.write_text.Tie as tie
+
+returns : tie.Need-returns
+unfolding fitted
+returns c =
+    let a = c .before .before .before .args in rw (lt-leb (length (a .text .now)) (length (a .buffer .now)) (omega arith)) (refl, refl)
+
+slice-relend-prefix-copy : tie.Need-slice-relend-prefix-copy
+slice-relend-prefix-copy c = search needs
+
+slice-aggregate-copy : tie.Need-slice-aggregate-copy
+slice-aggregate-copy c = sym (length-take-le _ _ (omega arith))
+
+copy-requires : tie.Need-copy-requires
+copy-requires c κs = length-take-le _ _ (omega arith)
+
+same-length : tie.Need-same-length
+same-length c = search needs
+
+returns-2 : tie.Need-returns-2
+unfolding fitted onto
+returns-2 c =
+    let e = c .before .before .before .before in
+    let a = e .before .before .before .args in
+    rw (le-leb (length (a .text .now)) (length (a .buffer .now)) (omega (arith, e .if1 .left)), c .before .before .copy .ensures) (refl, refl)
+
+pub write-text-spec : {M : Type 1} → statement M
+write-text-spec =
+    tie.close
+    (tie.spec
+    returns
+    slice-relend-prefix-copy
+    slice-aggregate-copy
+    copy-requires
+    same-length
+    returns-2)
