@@ -297,10 +297,11 @@ module _ (book : Book) (ready due : ℕ) where
 
   -- the rule describes one chamber and one start
   pub best-only :
-      (chamber start other-chamber other-start : ℕ) → BestChamber book ready due chamber start → BestChamber book ready due other-chamber other-start
-      → Chamber chamber start ≡ Chamber other-chamber other-start
-  best-only chamber start other-chamber other-start =
-      right-only ready due (book .run) (book .free) (book .chambers) (Chamber chamber start) (Chamber other-chamber other-start)
+      (chamber start other-chamber other-start : ℕ) → BestChamber book ready due chamber start
+      → BestChamber book ready due other-chamber other-start → (chamber ≡ other-chamber) × (start ≡ other-start)
+  best-only chamber start other-chamber other-start best other =
+      let one : Chamber chamber start ≡ Chamber other-chamber other-start = right-only ready due (book .run) (book .free) (book .chambers) _ _ best other in
+      (cc, cc)
 
   -- the next book is what the paper says, and a sound book stays sound
   pub decided-right : RightAnswer book ready due (nextBook book ready (decided book ready due)) (answerOf (decided book ready due))

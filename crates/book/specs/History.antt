@@ -1,6 +1,5 @@
 -- Orders given one after another, the loads that are kept of them, and the rule of the paper's source on these loads themselves instead
--- of the book:
--- when a chamber completes its loads, and which chamber the source takes. Assumes nothing.
+-- of the book: when a chamber completes its loads, and which chamber the source takes. Assumes nothing.
 use Prim.Native.Nat.{ℕ, _+_, _≤_, _<_}
 use mathlib.Core.Path.{_≡_}
 use mathlib.Core.Logic.{_⊎_}

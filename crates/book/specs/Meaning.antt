@@ -1,6 +1,5 @@
 -- What the paper says of a book: when it is sound and when fresh, when an order is refused and by which number, what it is answered, and
--- the next book.
--- The computing definitions are proved to be this. Assumes nothing.
+-- the next book. The computing definitions are proved to be this. Assumes nothing.
 use Prim.Native.Nat.{ℕ, _+_, _-_, _≤_, _<_}
 use mathlib.Core.Path.{_≡_}
 use lib.ListN.{length, getD}

@@ -13,7 +13,7 @@ use Rattle.choice.specs.BestFit.{offer, better, bestFit}
 use Rattle.choice.specs.declared.Choice.{Choice}
 use Rattle.choice.specs.declared.Choice.the-variants.{Nothing, Chamber}
 
-better-nothing : (choice : Choice) → better choice Nothing ≡ choice
+pub better-nothing : (choice : Choice) → better choice Nothing ≡ choice
 better-nothing Nothing = refl
 better-nothing (Chamber chamber start) = refl
 

@@ -1,175 +1,135 @@
 -- The computed choice is the one that the rule describes: a chamber fits best exactly where it is chosen, and none fits exactly where
 -- nothing is. Assumes nothing.
-use Prim.Native.Nat.{ℕ, suc, _+_, _-_, max, _≤_, _<_}
+use Prim.Native.Nat.{ℕ, zero, suc, _+_, _-_, max, _≤_, _<_}
 use mathlib.Core.Path.{_≡_, refl, sym}
-use mathlib.Core.List.{List, [], _∷_}
+use mathlib.Core.List.{List}
 use mathlib.Core.Logic.{_↔_}
-use lib.ListN.{length, getD, take, length-take}
-use lib.Seq.{getD-take, take-length}
+use lib.ListN.{length, getD, take, drop, length-take}
+use lib.Seq.{take-length}
 use lib.Dec.{leb, ltb}
 use native.Mathlib.Omega.{arith}
 use borrow.Author.Tests.{ltb-true, ltb-false, leb-true, leb-false}
 use Rattle.ground.proofs.Tests.{by-test}
-use Rattle.choice.specs.BestFit.{lifted, offer, better, bestFit}
-use Rattle.choice.specs.Meaning.{hourFor, Fits, BestFitting, NoneFits, RightChoice}
+use Rattle.choice.specs.BestFit.{offer, better, bestFit}
+use Rattle.choice.specs.Meaning.{hourFor, Fits, BestFitting, RightChoice}
 use Rattle.choice.specs.declared.Choice.{Choice}
 use Rattle.choice.specs.declared.Choice.the-variants.{Nothing, Chamber}
+use Rattle.choice.proofs.Choosing.{better-nothing, choice-step, choice-end}
 
--- a chamber that fits, among those numbered from one number on and before another
-record FitsAmong (hour : ℕ → ℕ) (due run first past chamber : ℕ) : Type 0 where
-  least : first ≤ chamber
-  before : chamber < past
-  in-time : hour chamber + run ≤ due
-
--- the best of those that fit: the latest hour, and the lowest number where hours are equal
-record BestAmong (hour : ℕ → ℕ) (due run first past chamber start : ℕ) : Type 0 where
-  fitting : FitsAmong hour due run first past chamber
-  started : start ≡ hour chamber
-  largest : (other : ℕ) → FitsAmong hour due run first past other → hour other ≤ start
-  lowest : (other : ℕ) → FitsAmong hour due run first past other → hour other ≡ start → chamber ≤ other
-
--- a choice is right if it is the best that fits, or nothing where none fits
-abbrev RightAmong : (ℕ → ℕ) → ℕ → ℕ → ℕ → ℕ → Choice → Type 0
-RightAmong hour due run first past Nothing = (chamber : ℕ) → FitsAmong hour due run first past chamber → ⊥
-RightAmong hour due run first past (Chamber chamber start) = BestAmong hour due run first past chamber start
-
-module _ (hour : ℕ → ℕ) (due run first middle past : ℕ) (low : first ≤ middle) (high : middle ≤ past) where
-  -- a chamber that fits stands before the middle or from it on
-  in-parts :
-      {C : Type 0} (chamber : ℕ) → FitsAmong hour due run first past chamber
-      → (FitsAmong hour due run first middle chamber → C) → (FitsAmong hour due run middle past chamber → C) → C
-  in-parts chamber fitting front back =
-      by-test (ltb chamber middle)
-      (λ test. front (record { least = fitting .least; before = ltb-true _ _ test; in-time = fitting .in-time }))
-      (λ test. back (record { least = ltb-false _ _ test; before = fitting .before; in-time = fitting .in-time }))
-
-  -- what fits in the front part fits in the whole
-  from-front : {chamber : ℕ} → FitsAmong hour due run first middle chamber → FitsAmong hour due run first past chamber
-  from-front fitting = record { least = fitting .least; before = omega arith; in-time = fitting .in-time }
-
-  -- what fits in the back part fits in the whole
-  from-back : {chamber : ℕ} → FitsAmong hour due run middle past chamber → FitsAmong hour due run first past chamber
-  from-back fitting = record { least = omega arith; before = fitting .before; in-time = fitting .in-time }
-
-  -- the best of the front part stays the best if all that fits in the back part is no later
-  front-best :
-      (chamber start : ℕ) → BestAmong hour due run first middle chamber start
-      → ((other : ℕ) → FitsAmong hour due run middle past other → hour other ≤ start) → BestAmong hour due run first past chamber start
-  front-best chamber start best no-later =
+module _ (ready due run : ℕ) (hours : List ℕ) where
+  -- where the same chambers fit the same choice is right
+  same-right :
+      (one other : ℕ) → ((chamber : ℕ) → Fits ready due run hours one chamber → Fits ready due run hours other chamber)
+      → ((chamber : ℕ) → Fits ready due run hours other chamber → Fits ready due run hours one chamber) → (choice : Choice)
+      → RightChoice ready due run hours one choice → RightChoice ready due run hours other choice
+  same-right one other to from Nothing none = λ chamber fits. none chamber (from chamber fits)
+  same-right one other to from (Chamber chamber start) best =
       record {
-        fitting = from-front (best .fitting);
+        fitting = to chamber (best .fitting);
         started = best .started;
-        largest = λ other fitting. in-parts other fitting (best .largest other) (no-later other);
-        lowest = λ other fitting equal. in-parts other fitting (λ front. best .lowest other front equal) (λ back. omega (arith, best .fitting .before));
+        largest = λ each fits. best .largest each (from each fits);
+        lowest = λ each fits. best .lowest each (from each fits);
       }
 
-  -- the best of the back part is the best if all that fits in the front part is earlier
-  back-best :
-      (chamber start : ℕ) → BestAmong hour due run middle past chamber start
-      → ((other : ℕ) → FitsAmong hour due run first middle other → hour other < start) → BestAmong hour due run first past chamber start
-  back-best chamber start best earlier =
-      record {
-        fitting = from-back (best .fitting);
-        started = best .started;
-        largest = λ other fitting. in-parts other fitting (λ front. omega (arith, earlier other front)) (best .largest other);
-        lowest = λ other fitting equal. in-parts other fitting (λ front. omega (arith, earlier other front)) (λ back. best .lowest other back equal);
-      }
+  -- One chamber more, the last of them.
+  module _ (count : ℕ) (inside : count < length hours) where
+    more-fits : (chamber : ℕ) → Fits ready due run hours count chamber → Fits ready due run hours (suc count) chamber
+    more-fits chamber fits = record { numbered = (fits .numbered .0, omega (arith, fits .numbered .1)); listed = fits .listed; in-time = fits .in-time }
 
-  -- the better of two right choices, one for each part, is right for the whole
-  right-better :
-      (one other : Choice) → RightAmong hour due run first middle one → RightAmong hour due run middle past other
-      → RightAmong hour due run first past (better one other)
-  right-better Nothing Nothing front back = λ chamber fitting. in-parts chamber fitting (front chamber) (back chamber)
-  right-better Nothing (Chamber chamber start) front back = back-best chamber start back (λ other fitting. absurd (front other fitting))
-  right-better (Chamber chamber start) Nothing front back = front-best chamber start front (λ other fitting. absurd (back other fitting))
-  right-better (Chamber chamber start) (Chamber other-chamber other-start) front back =
-      by-test (ltb start other-start)
-      (λ test.
-      rw test
-      (back-best other-chamber other-start back (λ other fitting. omega (arith, front .largest other fitting, ltb-true start other-start test))))
-      (λ test.
-      rw test (front-best chamber start front (λ other fitting. omega (arith, back .largest other fitting, ltb-false start other-start test))))
+    last-or-before :
+        {C : Type 0} (chamber : ℕ) → Fits ready due run hours (suc count) chamber → (Fits ready due run hours count chamber → C)
+        → (chamber ≡ suc count → C) → C
+    last-or-before chamber fits before last =
+        by-test (leb chamber count)
+        (λ e. before (record { numbered = (fits .numbered .0, leb-true _ _ e); listed = fits .listed; in-time = fits .in-time }))
+        (λ e. last (omega (arith, fits .numbered .1, leb-false chamber count e)))
 
--- what one chamber offers is right for that chamber alone
-right-offer :
-    (hour : ℕ → ℕ) (ready due run chamber free : ℕ) → lifted ready free ≡ hour chamber
-    → RightAmong hour due run chamber (suc chamber) (offer ready due run chamber free)
-unfolding offer
-right-offer hour ready due run chamber free known =
-    by-test (leb (max free ready + run) due)
-    (λ test. rw test (offered (leb-true _ _ test)))
-    (λ test. rw test (λ other fitting. omega (arith, leb-false (max free ready + run) due test, same other fitting)))
-  where
-    same : (other : ℕ) → FitsAmong hour due run chamber (suc chamber) other → hour other ≡ max free ready
-    same other fitting = let only : other ≡ chamber = omega arith in rw only (sym known)
+    -- its hour
+    abbrev hour : ℕ
+    hour = hourFor hours ready (suc count)
 
-    offered : max free ready + run ≤ due → BestAmong hour due run chamber (suc chamber) chamber (max free ready)
-    offered fits = record {
-      fitting = record { least = omega arith; before = omega arith; in-time = omega arith };
-      started = known;
-      largest = λ other fitting. omega (arith, same other fitting);
-      lowest = λ other fitting equal. fitting .least;
-    }
+    -- it fits best where all before it that fit are earlier
+    last-best :
+        hour + run ≤ due → ((other : ℕ) → Fits ready due run hours count other → hourFor hours ready other < hour)
+        → BestFitting ready due run hours (suc count) (suc count) hour
+    last-best in-time earlier =
+        record {
+          fitting = record { numbered = (omega arith, omega arith); listed = omega arith; in-time = in-time };
+          started = refl;
+          largest = λ other fits. last-or-before other fits (λ before. omega (arith, earlier other before)) (λ last. rw last (omega arith));
+          lowest = λ other fits equal. last-or-before other fits (λ before. omega (arith, earlier other before)) (λ last. omega arith);
+        }
 
--- the computed choice is right, if the listed hours are those of the chambers
-right-best :
-    (hour : ℕ → ℕ) (ready due run first : ℕ) (hours : List ℕ) → ((at : ℕ) → at < length hours → lifted ready (getD hours at 0) ≡ hour (first + at))
-    → RightAmong hour due run first (first + length hours) (bestFit ready due run first hours)
-unfolding bestFit
-right-best hour ready due run first [] known = λ chamber fitting. omega arith
-right-best hour ready due run first (free ∷ hours) known =
-    let nearest : first + 0 ≡ first = omega arith in
-    let here : lifted ready free ≡ hour first = rw nearest at (known 0 (omega arith)) in
-    let end : first + suc (length hours) ≡ suc first + length hours = omega arith in
-    rw end
-    (right-better hour due run first (suc first) (suc first + length hours) (omega arith) (omega arith) (offer ready due run first free)
-    (bestFit ready due run (suc first) hours) (right-offer hour ready due run first free here) (right-best hour ready due run (suc first) hours further))
-  where
-    further : (at : ℕ) → at < length hours → lifted ready (getD hours at 0) ≡ hour (suc first + at)
-    further at inside = let moved : first + suc at ≡ suc first + at = omega arith in rw moved at (known (suc at) (omega arith))
+    -- and else the best before it stays the best
+    right-last : hour + run ≤ due → (choice : Choice) → RightChoice ready due run hours count choice → RightChoice ready due run hours (suc count) (better choice (Chamber (suc count) hour))
+    right-last in-time Nothing none = last-best in-time (λ other fits. absurd (none other fits))
+    right-last in-time (Chamber chamber start) best =
+        by-test (ltb start hour)
+        (λ e. rw e (last-best in-time (λ other fits. omega (arith, best .largest other fits, ltb-true start hour e))))
+        (λ e. rw e (stays (ltb-false start hour e)))
+      where
+        stays : hour ≤ start → BestFitting ready due run hours (suc count) chamber start
+        stays late = record {
+          fitting = more-fits chamber (best .fitting);
+          started = best .started;
+          largest = λ other fits. last-or-before other fits (best .largest other) (λ last. rw last late);
+          lowest = λ other fits equal.
+              last-or-before other fits (λ before. best .lowest other before equal) (λ last. omega (arith, best .fitting .numbered .1));
+        }
+
+    -- so the better of the choice before it and what it offers is right
+    right-more :
+        (choice : Choice) → RightChoice ready due run hours count choice
+        → RightChoice ready due run hours (count + 1) (better choice (offer ready due run (count + 1) (getD hours count 0)))
+    unfolding offer
+    right-more choice right =
+        let more : count + 1 ≡ suc count = omega arith in
+        let there : suc count - 1 ≡ count = omega arith in
+        let its-own : hour ≡ max (getD hours count 0) ready = rw there refl in
+        rw (more, sym its-own)
+        (by-test (leb (hour + run) due)
+        (λ e. rw e (right-last (leb-true _ _ e) choice right))
+        (λ e.
+        rw (e, better-nothing choice)
+        (same-right count (suc count) more-fits (λ chamber fits. last-or-before chamber fits (λ before. before) (late (leb-false _ _ e) chamber fits)) choice
+        right)))
+      where
+        late :
+            due < hour + run → (chamber : ℕ) → Fits ready due run hours (suc count) chamber → chamber ≡ suc count → Fits ready due run hours count chamber
+        late past chamber fits last = let own = rw last at (fits .in-time) in absurd (omega (arith, own))
+
+  -- the choice so far, and the best of what is left
+  right-from :
+      (count left at : ℕ) (choice : Choice) → at + left ≡ length (take count hours) → RightChoice ready due run hours at choice
+      → RightChoice ready due run hours (length (take count hours)) (better choice (bestFit ready due run (at + 1) (drop at (take count hours))))
+  right-from count zero at choice all right =
+      let end : at ≡ length (take count hours) = omega arith in
+      rw (choice-end ready due run (at + 1) choice hours count at (omega arith), sym end) right
+  right-from count (suc left) at choice all right =
+      let few = rw (length-take count hours) at all in
+      rw (choice-step ready due run (at + 1) choice hours count at (omega (arith, few)) (omega (arith, few)))
+      (right-from count left (at + 1) (better choice (offer ready due run (at + 1) (getD hours at 0))) (omega arith) (right-more at (omega (arith, few)) choice right))
 
 -- Any chambers: the choice is made among the first of them, as many as the count says.
 module _ (ready due run : ℕ) (hours : List ℕ) (count : ℕ) where
-  -- how many there are
-  looked-at : length (take count hours) ≤ count
-  looked-at = simp length-take (omega arith)
-
-  -- to fit is to fit among them
-  fits-among :
-      (chamber : ℕ) → Fits ready due run hours count chamber → FitsAmong (hourFor hours ready) due run 1 (1 + length (take count hours)) chamber
-  fits-among chamber fitting =
-      record {
-        least = fitting .numbered .0;
-        before = simp length-take (omega (arith, fitting .numbered .1, fitting .listed));
-        in-time = fitting .in-time;
-      }
-
-  -- and back
-  among-fits :
-      (chamber : ℕ) → FitsAmong (hourFor hours ready) due run 1 (1 + length (take count hours)) chamber → Fits ready due run hours count chamber
-  among-fits chamber fitting =
-      let most = simp length-take at (fitting .before) in
-      record { numbered = (fitting .least, omega (arith, most)); listed = omega (arith, most); in-time = fitting .in-time }
-
-  -- a right choice among them is right
-  among-right : (choice : Choice) → RightAmong (hourFor hours ready) due run 1 (1 + length (take count hours)) choice → RightChoice ready due run hours count choice
-  among-right Nothing right = λ chamber fitting. right chamber (fits-among chamber fitting)
-  among-right (Chamber chamber start) right =
-      record {
-        fitting = among-fits chamber (right .fitting);
-        started = right .started;
-        largest = λ other fitting. right .largest other (fits-among other fitting);
-        lowest = λ other fitting. right .lowest other (fits-among other fitting);
-      }
-
-  listed-hours : (at : ℕ) → at < length (take count hours) → lifted ready (getD (take count hours) at 0) ≡ hourFor hours ready (1 + at)
-  listed-hours at inside =
-      let moved : (1 + at) - 1 ≡ at = omega arith in rw (getD-take count hours at 0 (omega (arith, looked-at)), moved)
-
   -- so the computed choice is right
   pub best-right : RightChoice ready due run hours count (bestFit ready due run 1 (take count hours))
   best-right =
-      among-right (bestFit ready due run 1 (take count hours)) (right-best (hourFor hours ready) ready due run 1 (take count hours) listed-hours)
+      same-right ready due run hours (length (take count hours)) count fewer all (bestFit ready due run 1 (take count hours))
+      (right-from ready due run hours count (length (take count hours)) 0 Nothing (omega arith) (λ chamber fits. omega (arith, fits .numbered)))
+    where
+      fewer : (chamber : ℕ) → Fits ready due run hours (length (take count hours)) chamber → Fits ready due run hours count chamber
+      fewer chamber fits =
+          let most = rw (length-take count hours) at (fits .numbered .1) in
+          record { numbered = (fits .numbered .0, omega (arith, most)); listed = fits .listed; in-time = fits .in-time }
+
+      all : (chamber : ℕ) → Fits ready due run hours count chamber → Fits ready due run hours (length (take count hours)) chamber
+      all chamber fits =
+          record {
+            numbered = (fits .numbered .0, rw (length-take count hours) (omega (arith, fits .numbered .1, fits .listed)));
+            listed = fits .listed;
+            in-time = fits .in-time;
+          }
 
   -- and one choice is right
   pub right-only : (one other : Choice) → RightChoice ready due run hours count one → RightChoice ready due run hours count other → one ≡ other

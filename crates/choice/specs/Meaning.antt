@@ -1,6 +1,5 @@
 -- What it means that a chamber is the one that the rule describes, for any number of chambers with any free hours: steps 1 to 4 of the
--- paper.
--- The first chamber is number 1, and its free hour stands first. The computing definition is proved to be this. Assumes nothing.
+-- paper. The first chamber is number 1, and its free hour stands first. The computing definition is proved to be this. Assumes nothing.
 use Prim.Native.Nat.{ℕ, _+_, _-_, max, _≤_}
 use mathlib.Core.Path.{_≡_}
 use mathlib.Core.List.{List}
