@@ -31,6 +31,7 @@ use Rattle.book.proofs.Counting as counting
 use Rattle.book.proofs.Source as source
 use Rattle.book.proofs.Book.«open».Reads as opening
 use Rattle.book.proofs.Book.take.Reads as take
+use Rattle.book.proofs.Book.hold.Reads as holding
 use Rattle.book.proofs.Book.limits.Reads as limits
 
 -- The paper's word and numbers for each case of the answer.
@@ -119,9 +120,15 @@ module _ (κs : Lfts 0) (chambers run : ℕ) (outcome : Opened) (after : _) (lea
 pub fresh-book-fresh : (chambers run : ℕ) → Fresh chambers run (freshBook chambers run)
 fresh-book-fresh = fresh-book
 
--- a load takes its chamber for as long as it runs
+-- a load takes its chamber for as long as it runs: so says the definition, and so does the function, and nothing else
 pub hold-is-run : (book : Book) → hold book ≡ book .run
 hold-is-run book = refl
+
+pub hold-exactly : (κs : Lfts 0) (book : Book) (hours : ℕ) (after : _) → holding.Learnt κs (book, tt) hours after → hours ≡ book .run
+hold-exactly κs book hours after learnt = learnt
+
+pub hold-single : (κs : Lfts 0) (book : Book) (after : _) → Single (λ hours. holding.Learnt κs (book, tt) hours after)
+hold-single κs book after = single-value (hold book)
 
 -- a book that is opened so is sound
 pub opened-fresh :

@@ -5,9 +5,9 @@ use crate::case_text::TextRead;
 use crate::results;
 use book::Answer;
 use orders::Progress;
-use writer::LINE_ROOM;
 use plans::Fault;
 use plans::Judgement;
+use writer::LINE_ROOM;
 use writer::text_in;
 
 // The reply to a whole list, as one text.

@@ -100,13 +100,13 @@ module _ (met : Bool) (MayBe : Type 0) (means : (met ≡ true) ↔ MayBe) (text 
       record {
         out-of-range = Iff·trans (refused-as answer answered 4) (Iff·trans (writing.refused-by-four met text buffer written tested) fails);
         no-room =
-          Iff·trans (refused-as answer answered 7)
-          (Iff·trans (writing.refused-by-seven met text buffer written tested) (λ p. (means .0 (p .0), p .1), λ p. (means .1 (p .0), p .1)));
+            Iff·trans (refused-as answer answered 7)
+            (Iff·trans (writing.refused-by-seven met text buffer written tested) (λ p. (means .0 (p .0), p .1), λ p. (means .1 (p .0), p .1)));
         no-other = λ number same. no-other number (refused-as answer answered number .0 same);
         written =
-          λ count.
-          Iff·trans (written-as answer answered count)
-          (Iff·trans (done count) (λ p. (means .0 (p .0), p .1, p .2), λ p. (means .1 (p .0), p .1, p .2)));
+            λ count.
+            Iff·trans (written-as answer answered count)
+            (Iff·trans (done count) (λ p. (means .0 (p .0), p .1, p .2), λ p. (means .1 (p .0), p .1, p .2)));
         refused-stays = λ number same. kept ∙ refused-stays buffer (fitted buffer written) number (refused-as answer answered number .0 same);
         front = λ count same. front-is count (written-as answer answered count .0 same);
         rest-stays = λ count same. rest-is count (written-as answer answered count .0 same);
@@ -140,11 +140,11 @@ module _ (met : Bool) (MayBe : Type 0) (means : (met ≡ true) ↔ MayBe) (field
       record {
         stays-refused = λ number same. refused-by number (ap (λ line. frontAfter (asLength line) read stop buffer) same);
         out-of-range =
-          λ at on never.
-          refused-by 4 (going-on at (wrong 4) on (tested ∙ after-unmet 4 (right field) (not-met (λ passed. never (means .0 passed)))));
+            λ at on never.
+            refused-by 4 (going-on at (wrong 4) on (tested ∙ after-unmet 4 (right field) (not-met (λ passed. never (means .0 passed)))));
         no-room =
-          λ at on may short.
-          refused-by 7 (going-on at (right field) on (tested ∙ after-met 4 (right field) (means .1 may)) ∙ line-short at field stop buffer (omega arith));
+            λ at on may short.
+            refused-by 7 (going-on at (right field) on (tested ∙ after-met 4 (right field) (means .1 may)) ∙ line-short at field stop buffer (omega arith));
         put = λ at on may room. put-at at on may room;
       }
     where
@@ -154,8 +154,7 @@ module _ (met : Bool) (MayBe : Type 0) (means : (met ≡ true) ↔ MayBe) (field
       put-at at on may room =
           let space : at + length field < length buffer = omega arith in
           let front = going-on at (right field) on (tested ∙ after-met 4 (right field) (means .1 may)) ∙ line-fits at field stop buffer space in
-          let long : length (take at buffer ++ field ++ stop ∷ []) ≡ at + length field + 1 = front-length at field stop buffer space in
-          (
+          let long : length (take at buffer ++ field ++ stop ∷ []) ≡ at + length field + 1 = front-length at field stop buffer space in (
             length-told answer (Length (at + length field + 1)) (answered ∙ ap lengthOf front ∙ ap right long),
             kept ∙ ap (bufferAfter buffer) front ∙ rw long (append-assoc (take at buffer ++ field) (stop ∷ []) (drop (at + length field + 1) buffer)),
           )

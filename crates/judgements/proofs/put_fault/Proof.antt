@@ -41,8 +41,7 @@ returns c =
     let numbered = named .before .before .before .before in
     let worded = numbered .before .before .before .before in
     let s = worded .before .before .before .before in
-    let short = numbers-short s in
-    (
+    let short = numbers-short s in (
       then-put _ _ _ (worded .put-word .ensures)
           (then-put _ _ _ (numbered .put-number .ensures) (then-put _ _ _ (named .put-text .ensures) (last-put _ _ _ (ended .put-number2 .ensures)))),
       omega (arith, word-short (s .args .fault .plan)),

@@ -24,8 +24,7 @@ unfolding bytes bytesOfAll
 returns c =
     let numbered = c .before .before in
     let worded = numbered .before .before .before .before in
-    let a = worded .before .before .before .before .args in
-    (
+    let a = worded .before .before .before .before .args in (
       then-put _ _ _ (worded .put-word .ensures) (last-put _ _ _ (numbered .put-number .ensures)),
       omega (arith, number-short (a .count) (omega arith)),
     )

@@ -20,8 +20,7 @@ unfolding bytesOfAll
 returns c =
     let answered = c .before .before in
     let numbered = answered .before .before .before .before in
-    let a = numbered .before .before .before .args in
-    (
+    let a = numbered .before .before .before .args in (
       then-put _ _ _ (numbered .put-number .ensures) (answered .put-answer .ensures .0),
       omega (arith, number-short (a .line) (omega arith), answered .put-answer .ensures .1),
     )

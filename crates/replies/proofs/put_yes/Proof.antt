@@ -28,8 +28,7 @@ returns c =
     let timed = c .before .before in
     let housed = timed .before .before .before .before in
     let worded = housed .before .before .before .before in
-    let a = worded .before .before .before .before .args in
-    (
+    let a = worded .before .before .before .before .args in (
       then-put _ _ _ (worded .put-word .ensures) (then-put _ _ _ (housed .put-number .ensures) (last-put _ _ _ (timed .put-hour .ensures))),
       omega (arith, number-short (a .chamber) (omega arith), hour-short (a .start)),
     )

@@ -41,7 +41,7 @@ returns c = rw (c .enum-told .given .1) (refl, refl)
 
 returns-2 : tie.Need-returns-2
 unfolding frontAfter
-returns-2 c = 
+returns-2 c =
     let p = c .before .before in
     let a = p .before .before .before .args in
     rw (p .so-far .given .1, hour-above (a .hour) (omega (arith, c .if1 .taken))) (refl, refl)
@@ -80,7 +80,7 @@ same-length : tie.Need-same-length
 same-length c = search needs
 
 returns-3 : tie.Need-returns-3
-returns-3 c = 
+returns-3 c =
     let t = c .before .before .before .before in
     let e = t .before .before .before in
     let p = e .before .before in
@@ -90,7 +90,7 @@ returns-3 c =
     (field-put (fits-at t) (c .before .before .write-hour .ensures .1 ∙ hour-fills (a .hour) _ within (part-sized (fits-at t))) (omega arith) (omega arith))
 
 returns-4 : tie.Need-returns-4
-returns-4 c = 
+returns-4 c =
     let d = c .before .before in
     let p = d .before .before .before in
     let a = p .before .before .before .args in

@@ -60,7 +60,7 @@ same-length : tie.Need-same-length
 same-length c = search needs
 
 returns-2 : tie.Need-returns-2
-returns-2 c = 
+returns-2 c =
     let t = c .before .before .before .before in
     let p = t .before .before .before .before in
     let number = p .before .before .before .args .number in
@@ -69,7 +69,7 @@ returns-2 c =
     (omega arith) (omega arith))
 
 returns-3 : tie.Need-returns-3
-returns-3 c = 
+returns-3 c =
     let d = c .before .before in
     let p = d .before .before in
     let a = p .before .before .before .args in

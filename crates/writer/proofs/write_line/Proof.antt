@@ -22,7 +22,7 @@ returns c = rw (c .enum-told .given .1) (refl, refl)
 
 returns-2 : tie.Need-returns-2
 unfolding lineIn fitted
-returns-2 c = 
+returns-2 c =
     let p = c .before .before in
     let a = p .before .before .before .before .args in
     rw (p .line .given .1, lt-leb (p .line .given .0 .0) (length (a .own .now)) (omega (arith, c .if1 .taken))) (refl, refl)
@@ -38,7 +38,7 @@ same-length c = search needs
 
 returns-3 : tie.Need-returns-3
 unfolding lineIn
-returns-3 c = 
+returns-3 c =
     let w = c .before .before in
     let e = w .before .before .before in
     let p = e .before .before in
