@@ -1,5 +1,6 @@
--- What this room promises, of what its functions answer and of the very definitions that their contracts cite. Each is a line over a law of this folder. Assumes nothing.
-use Prim.Native.Nat.{ℕ, _+_, _≤_, _<_}
+-- What this room promises, of what its functions answer and of the very definitions that their contracts cite.
+-- Each is a line over a law of this folder. Assumes nothing.
+use Prim.Native.Nat.{ℕ, _≤_, _<_}
 use mathlib.Core.Path.{_≡_, refl, sym, _∙_}
 use mathlib.Core.List.{List, [], _∷_}
 use lib.ListN.{length, drop}
@@ -18,7 +19,7 @@ use native.Mathlib.Omega.{arith}
 use Rattle.ground.specs.Outcome.{Single}
 use Rattle.ground.proofs.Outcome.{single-value}
 use Rattle.texts.specs.Lines.{lineEnd, linesOf, lineAt, lineStart, pastLine, partStart}
-use Rattle.texts.specs.Meaning.{joined, AreLines, FirstLine, Between, LiesAt, LineLies, Starts, Hands, Walked}
+use Rattle.texts.specs.Meaning.{joined, AreLines, FirstLine, IsPast, Between, LiesAt, OnePart, LineLies, Starts, Hands, Walked}
 use Rattle.texts.specs.declared.Walk.{Walk}
 use Rattle.texts.specs.declared.Handed.{Handed}
 use Rattle.texts.proofs.WholeText as whole
@@ -48,14 +49,15 @@ lines-are = whole.lines-are
 pub lines-only : (lines : List (List ℕ)) → AreLines lines → linesOf (joined lines) ≡ lines
 lines-only lines = whole.lines-only
 
--- 2g: at a place a line has a byte at least, and the lines from the place past it on follow; at or past the end there is none, and the place stays
+-- 2g: at a place a line has a byte at least, and the lines from the place past it on follow; at or past the end none is left
 pub walk-on : (text : List ℕ) (at : ℕ) → at < length text → linesOf (drop at text) ≡ lineAt text at ∷ linesOf (drop (pastLine text at) text)
 walk-on = whole.walk-on
 
 pub walk-some : (text : List ℕ) (at : ℕ) → at < length text → 1 ≤ length (lineAt text at)
 walk-some = whole.walk-some
 
-pub walk-done : (text : List ℕ) (at : ℕ) → length text ≤ at → (linesOf (drop at text) ≡ []) × (lineAt text at ≡ []) × (pastLine text at ≡ at)
+pub walk-done :
+    (text : List ℕ) (at : ℕ) → length text ≤ at → (linesOf (drop at text) ≡ []) × (lineAt text at ≡ []) × (pastLine text at ≡ at)
 walk-done = whole.walk-done
 
 -- there is one first line of a text
@@ -64,31 +66,33 @@ first-line-one text one other p q = whole.first-only p ∙ sym (whole.first-only
 
 module _ (κs : Lfts 1) (text : RefT (List ℕ)) (at : ℕ) where
   -- `line_end`: the place past the first line of what stands from the place on; at or past the end the place itself
-  pub line-end-past : (end : ℕ) (after : _) → line-end.Learnt κs (text, (at, tt)) end after → (line : List ℕ) × FirstLine line (drop at (now text)) × (end ≡ at + length line)
-  line-end-past end after learnt = places.past-first (now text) at end learnt
+  module _ (end : ℕ) (after : _) (learnt : line-end.Learnt κs (text, (at, tt)) end after) where
+    pub line-end-past : IsPast (now text) at end
+    line-end-past = places.past-first (now text) at end learnt
 
-  pub line-end-stays : (end : ℕ) (after : _) → line-end.Learnt κs (text, (at, tt)) end after → length (now text) ≤ at → end ≡ at
-  line-end-stays end after learnt past = learnt ∙ whole.walk-done (now text) at past .2
+    pub line-end-stays : length (now text) ≤ at → end ≡ at
+    line-end-stays past = learnt ∙ whole.walk-done (now text) at past .2
 
   -- `line_at`: that first line, as a part of the text; at or past the end none
-  pub line-at-first : (line : RefT (List ℕ)) (after : _) → line-at.Learnt κs (text, (at, tt)) line after → FirstLine (now line) (drop at (now text))
-  line-at-first line after learnt = rw (learnt .0) (whole.line-first (now text) at)
+  module _ (line : RefT (List ℕ)) (after : _) (learnt : line-at.Learnt κs (text, (at, tt)) line after) where
+    pub line-at-first : FirstLine (now line) (drop at (now text))
+    line-at-first = rw (learnt .0) (whole.line-first (now text) at)
 
-  pub line-at-none : (line : RefT (List ℕ)) (after : _) → line-at.Learnt κs (text, (at, tt)) line after → length (now text) ≤ at → now line ≡ []
-  line-at-none line after learnt past = learnt .0 ∙ whole.walk-done (now text) at past .1
+    pub line-at-none : length (now text) ≤ at → now line ≡ []
+    line-at-none past = learnt .0 ∙ whole.walk-done (now text) at past .1
 
-  pub line-at-lies : (line : RefT (List ℕ)) (after : _) → line-at.Learnt κs (text, (at, tt)) line after → LineLies line text at
-  line-at-lies line after learnt = walks.line-lies line text at (learnt .1)
+    pub line-at-lies : LineLies line text at
+    line-at-lies = walks.line-lies line text at (learnt .1)
 
   -- `walked_line` and `walked_place`: the same of a walk at the place
-  pub walked-line-first : (line : RefT (List ℕ)) (after : _) → walked-line.Learnt κs (text, (at, tt)) line after → FirstLine (now line) (drop at (now text))
-  walked-line-first line after learnt = rw (learnt .0) (whole.line-first (now text) at)
+  module _ (line : RefT (List ℕ)) (after : _) (learnt : walked-line.Learnt κs (text, (at, tt)) line after) where
+    pub walked-line-first : FirstLine (now line) (drop at (now text))
+    walked-line-first = rw (learnt .0) (whole.line-first (now text) at)
 
-  pub walked-line-lies : (line : RefT (List ℕ)) (after : _) → walked-line.Learnt κs (text, (at, tt)) line after → LineLies line text at
-  walked-line-lies line after learnt = walks.line-lies line text at (learnt .1)
+    pub walked-line-lies : LineLies line text at
+    walked-line-lies = walks.line-lies line text at (learnt .1)
 
-  pub walked-place-past :
-      (end : ℕ) (after : _) → walked-place.Learnt κs (text, (at, tt)) end after → (line : List ℕ) × FirstLine line (drop at (now text)) × (end ≡ at + length line)
+  pub walked-place-past : (end : ℕ) (after : _) → walked-place.Learnt κs (text, (at, tt)) end after → IsPast (now text) at end
   walked-place-past end after learnt = places.past-first (now text) at end learnt
 
 -- `walk_start`: the top
@@ -96,7 +100,8 @@ pub walk-start-top : (κs : Lfts 1) (text : RefT (List ℕ)) (place : ℕ) (afte
 walk-start-top κs text place after learnt = learnt
 
 -- `part`: between two places of the text in order, and there; else the empty front
-module _ (κs : Lfts 1) (text : RefT (List ℕ)) (from to : ℕ) (cut : RefT (List ℕ)) (after : _) (learnt : part.Learnt κs (text, (from, (to, tt))) cut after) where
+module _ (κs : Lfts 1) (text : RefT (List ℕ)) (from to : ℕ) (cut : RefT (List ℕ)) (after : _)
+    (learnt : part.Learnt κs (text, (from, (to, tt))) cut after) where
   pub part-between : from ≤ to → to ≤ length (now text) → Between (now text) (now cut) from to × LiesAt cut text from
   part-between order inside = places.between-places text cut from to (learnt .0) (learnt .1) order inside
 
@@ -105,10 +110,14 @@ module _ (κs : Lfts 1) (text : RefT (List ℕ)) (from to : ℕ) (cut : RefT (Li
 
 -- `start` and `next`: their contracts say no less than the clauses of `specs/Meaning.antt`
 module _ {M : Type 1} (𝓤 : URA M) (H : Heap 𝓤) (A : Atoms 𝓤) (mem : Memory → SProp 𝓤) (run : Routine → Fun 𝓤) (κ : Lft) where
-  pub start-starts : (text : RefT (List ℕ)) (walk : Walk) → ent 𝓤 (ensured 𝓤 H A start.ended (start.clauses 𝓤 H A mem run) (κ, tt) (text, tt) tt walk) (fact 𝓤 (Starts text walk))
+  pub start-starts :
+      (text : RefT (List ℕ)) (walk : Walk)
+      → ent 𝓤 (ensured 𝓤 H A start.ended (start.clauses 𝓤 H A mem run) (κ, tt) (text, tt) tt walk) (fact 𝓤 (Starts text walk))
   start-starts = thin.start-said 𝓤 H A mem run κ
 
-  pub next-hands : (walk : Walk) (handed : Handed) → ent 𝓤 (ensured 𝓤 H A next.ended (next.clauses 𝓤 H A mem run) (κ, tt) (walk, tt) tt handed) (fact 𝓤 (Hands walk handed))
+  pub next-hands :
+      (walk : Walk) (handed : Handed)
+      → ent 𝓤 (ensured 𝓤 H A next.ended (next.clauses 𝓤 H A mem run) (κ, tt) (walk, tt) tt handed) (fact 𝓤 (Hands walk handed))
   next-hands = thin.next-said 𝓤 H A mem run κ
 
   -- and ask nothing
@@ -118,9 +127,11 @@ module _ {M : Type 1} (𝓤 : URA M) (H : Heap 𝓤) (A : Atoms 𝓤) (mem : Mem
   pub next-asks-nothing : (walk : Walk) → ent 𝓤 (emp 𝓤) (next.clauses 𝓤 H A mem run (κ, tt) (walk, tt) .requires tt)
   next-asks-nothing walk = id⊢ 𝓤 (emp 𝓤)
 
--- 2g, the walk as a whole: from `start` by `next` until none is left just the lines of the text are handed out, in order, and the place is then the text's length
+-- 2g, the walk as a whole: from `start` by `next` until none is left just the lines of the text are handed out, in order,
+-- and the place is then the text's length
 pub walk-whole :
-    (text : RefT (List ℕ)) (walk last : Walk) (lines : List (List ℕ)) → Starts text walk → Walked walk lines last → (lines ≡ linesOf (now text)) × (last .at ≡ length (now text))
+    (text : RefT (List ℕ)) (walk last : Walk) (lines : List (List ℕ)) → Starts text walk → Walked walk lines last
+    → (lines ≡ linesOf (now text)) × (last .at ≡ length (now text))
 walk-whole text walk last lines = walks.walked-whole
 
 -- and every walk comes to an end, from whatever place
@@ -128,39 +139,39 @@ pub walk-ends : (walk : Walk) → (lines : List (List ℕ)) × (last : Walk) × 
 walk-ends walk = walks.walks-out (length (now (walk .text))) walk (omega arith)
 
 -- 1d: each public function's contract admits a single outcome, of a returned part its contents and where it lies
-pub line-end-single : (κs : Lfts 1) (text : RefT (List ℕ)) (at : ℕ) (after : _) → Single (λ end. line-end.Learnt κs (text, (at, tt)) end after)
-line-end-single κs text at after = single-value (pastLine (now text) at)
-
-pub line-at-single :
-    (κs : Lfts 1) (text : RefT (List ℕ)) (at : ℕ) (one other : RefT (List ℕ)) (after : _)
-    → line-at.Learnt κs (text, (at, tt)) one after → line-at.Learnt κs (text, (at, tt)) other after → (now one ≡ now other) × (one .ptr ≡ other .ptr)
-line-at-single κs text at one other after p q = places.one-part text one other (lineStart (now text) at) (p .0) (q .0) (p .1) (q .1)
-
-pub part-single :
-    (κs : Lfts 1) (text : RefT (List ℕ)) (from to : ℕ) (one other : RefT (List ℕ)) (after : _)
-    → part.Learnt κs (text, (from, (to, tt))) one after → part.Learnt κs (text, (from, (to, tt))) other after → (now one ≡ now other) × (one .ptr ≡ other .ptr)
-part-single κs text from to one other after p q = places.one-part text one other (partStart (now text) from to) (p .0) (q .0) (p .1) (q .1)
-
 pub start-single : (text : RefT (List ℕ)) → Single (Starts text)
 start-single text = walks.one-start
 
-pub next-single : (walk : Walk) (one other : Handed) → Hands walk one → Hands walk other → (now (one .line) ≡ now (other .line)) × (one .line .ptr ≡ other .line .ptr) × (one .walk ≡ other .walk)
+pub next-single :
+    (walk : Walk) (one other : Handed) → Hands walk one → Hands walk other → OnePart (one .line) (other .line) × (one .walk ≡ other .walk)
 next-single walk one other = walks.one-handed
 
-pub walk-start-single : (κs : Lfts 1) (text : RefT (List ℕ)) (after : _) → Single (λ place. walk-start.Learnt κs (text, tt) place after)
-walk-start-single κs text after = single-value 0
+module _ (κs : Lfts 1) (text : RefT (List ℕ)) where
+  pub walk-start-single : (after : _) → Single (λ place. walk-start.Learnt κs (text, tt) place after)
+  walk-start-single after = single-value 0
 
-pub walked-line-single :
-    (κs : Lfts 1) (text : RefT (List ℕ)) (at : ℕ) (one other : RefT (List ℕ)) (after : _)
-    → walked-line.Learnt κs (text, (at, tt)) one after → walked-line.Learnt κs (text, (at, tt)) other after → (now one ≡ now other) × (one .ptr ≡ other .ptr)
-walked-line-single κs text at one other after p q = places.one-part text one other (lineStart (now text) at) (p .0) (q .0) (p .1) (q .1)
+  pub line-end-single : (at : ℕ) (after : _) → Single (λ end. line-end.Learnt κs (text, (at, tt)) end after)
+  line-end-single at after = single-value (pastLine (now text) at)
 
-pub walked-place-single : (κs : Lfts 1) (text : RefT (List ℕ)) (at : ℕ) (after : _) → Single (λ end. walked-place.Learnt κs (text, (at, tt)) end after)
-walked-place-single κs text at after = single-value (pastLine (now text) at)
+  pub walked-place-single : (at : ℕ) (after : _) → Single (λ end. walked-place.Learnt κs (text, (at, tt)) end after)
+  walked-place-single at after = single-value (pastLine (now text) at)
 
--- no public function asks anything of what it is passed
-module _ (κs : Lfts 1) (text : RefT (List ℕ)) (at to : ℕ) where
+  module _ (one other : RefT (List ℕ)) (at : ℕ) (after : _) where
+    pub line-at-single : line-at.Learnt κs (text, (at, tt)) one after → line-at.Learnt κs (text, (at, tt)) other after → OnePart one other
+    line-at-single p q = places.one-part text one other (lineStart (now text) at) (p .0) (q .0) (p .1) (q .1)
+
+    pub walked-line-single :
+        walked-line.Learnt κs (text, (at, tt)) one after → walked-line.Learnt κs (text, (at, tt)) other after → OnePart one other
+    walked-line-single p q = places.one-part text one other (lineStart (now text) at) (p .0) (q .0) (p .1) (q .1)
+
+  pub part-single :
+      (one other : RefT (List ℕ)) (from to : ℕ) (after : _) → part.Learnt κs (text, (from, (to, tt))) one after
+      → part.Learnt κs (text, (from, (to, tt))) other after → OnePart one other
+  part-single one other from to after p q = places.one-part text one other (partStart (now text) from to) (p .0) (q .0) (p .1) (q .1)
+
+  -- and asks nothing of what it is passed
   pub nothing-asked :
-      line-end.Asked κs (text, (at, tt)) × line-at.Asked κs (text, (at, tt)) × part.Asked κs (text, (at, (to, tt))) × walk-start.Asked κs (text, tt) × walked-line.Asked κs (text, (at, tt))
-      × walked-place.Asked κs (text, (at, tt))
-  nothing-asked = (tt, tt, tt, tt, tt, tt)
+      (at to : ℕ)
+      → line-end.Asked κs (text, (at, tt)) × line-at.Asked κs (text, (at, tt)) × part.Asked κs (text, (at, (to, tt)))
+      × walk-start.Asked κs (text, tt) × walked-line.Asked κs (text, (at, tt)) × walked-place.Asked κs (text, (at, tt))
+  nothing-asked at to = (tt, tt, tt, tt, tt, tt)

@@ -1,4 +1,4 @@
--- What the functions share that are passed a text and a place and ask `start` or `next`: they make the walk, and keep what they were passed.
+-- What the functions share that are passed a text or a place in it and ask `start` or `next`: they make the walk, and keep what they got.
 -- All that is known of the two is that they meet their contracts. Assumes nothing.
 use mathlib.Core.Path.{refl}
 use Prim.Native.Nat.{ℕ, _<_, _^_}

@@ -10,7 +10,7 @@ use denote.Ref.{RefT, now}
 use Rattle.ground.specs.Outcome.{Single}
 use Rattle.ground.proofs.Tests.{by-test}
 use Rattle.texts.specs.Lines.{linesOf, lineAt, lineStart, pastLine, partOf, partStart}
-use Rattle.texts.specs.Meaning.{LiesAt, LineLies, Starts, Hands, Walked, none-left, goes-on}
+use Rattle.texts.specs.Meaning.{LiesAt, LineLies, OnePart, Starts, Hands, Walked, none-left, goes-on}
 use Rattle.texts.specs.declared.Walk.{Walk}
 use Rattle.texts.specs.declared.Handed.{Handed}
 use Rattle.texts.proofs.Lines.{past-is, part-is, starts-inside, starts-beyond}
@@ -19,18 +19,27 @@ use Rattle.texts.proofs.WholeText.{line-first, line-only, walk-on, walk
 
 -- where a line lies, said of the two cases
 pub line-lies : (line text : RefT (List ℕ)) (at : ℕ) → LiesAt line text (lineStart (now text) at) → LineLies line text at
-line-lies line text at lies =
-    (λ inside. (lies .0, omega (arith, lies .1, starts-inside (now text) at inside)), λ beyond. (lies .0, omega (arith, lies .1, starts-beyond (now text) at beyond)))
+line-lies line text at lies = (
+  λ inside. (lies .0, omega (arith, lies .1, starts-inside (now text) at inside)),
+  λ beyond. (lies .0, omega (arith, lies .1, starts-beyond (now text) at beyond)),
+)
 
 pub lies-start : (line text : RefT (List ℕ)) (at : ℕ) → LineLies line text at → LiesAt line text (lineStart (now text) at)
 lies-start line text at lies =
     by-test (leb at (length (now text)))
-    (λ inside. let found = lies .0 (leb-true _ _ inside) in (found .0, omega (arith, found .1, starts-inside (now text) at (leb-true _ _ inside))))
-    (λ beyond. let found = lies .1 (leb-false _ _ beyond) in (found .0, omega (arith, found .1, starts-beyond (now text) at (leb-false _ _ beyond))))
+    (λ test.
+    let inside : at ≤ length (now text) = leb-true _ _ test in
+    let found = lies .0 inside in
+    (found .0, omega (arith, found .1, starts-inside (now text) at inside)))
+    (λ test.
+    let beyond : length (now text) < at = leb-false _ _ test in
+    let found = lies .1 beyond in
+    (found .0, omega (arith, found .1, starts-beyond (now text) at beyond)))
 
 -- a part up to the place past the line is what a walk has to hand out
 pub handed-on :
-    (walk : Walk) (line : RefT (List ℕ)) (end : ℕ) → end ≡ pastLine (now (walk .text)) (walk .at) → now line ≡ partOf (now (walk .text)) (walk .at) end
+    (walk : Walk) (line : RefT (List ℕ)) (end : ℕ) → end ≡ pastLine (now (walk .text)) (walk .at)
+    → now line ≡ partOf (now (walk .text)) (walk .at) end
     → LiesAt line (walk .text) (partStart (now (walk .text)) (walk .at) end)
     → Hands walk (record { line = line; walk = record { text = walk .text; at = end } })
 handed-on walk line end past cut lies =
@@ -96,7 +105,8 @@ can-hand walk = record {
 }
 
 -- and so every walk ends: there are fewer bytes left each time
-pub walks-out : (fuel : ℕ) (walk : Walk) → length (now (walk .text)) ≤ walk .at + fuel → (lines : List (List ℕ)) × (last : Walk) × Walked walk lines last
+pub walks-out :
+    (fuel : ℕ) (walk : Walk) → length (now (walk .text)) ≤ walk .at + fuel → (lines : List (List ℕ)) × (last : Walk) × Walked walk lines last
 walks-out zero walk few =
     ([], hand-out walk .walk, none-left walk (hand-out walk) (can-hand walk) (walk-done (now (walk .text)) (walk .at) (omega arith) .1))
 walks-out (suc fuel) walk few =
@@ -105,12 +115,16 @@ walks-out (suc fuel) walk few =
     (λ past. ([], hand-out walk .walk, none-left walk (hand-out walk) (can-hand walk) (walk-done text (walk .at) (leb-true _ _ past) .1)))
     (λ left.
     let in-text : walk .at < length text = leb-false _ _ left in
-    let rest = walks-out fuel (hand-out walk .walk) (omega (arith, moves-on text (walk .at) in-text)) in
-    (lineAt text (walk .at) ∷ rest .0, rest .1, goes-on walk (rest .1) (hand-out walk) (rest .0) (can-hand walk) (walk-some text (walk .at) in-text) (rest .2)))
+    let rest = walks-out fuel (hand-out walk .walk) (omega (arith, moves-on text (walk .at) in-text)) in (
+      lineAt text (walk .at) ∷ rest .0,
+      rest .1,
+      goes-on walk (rest .1) (hand-out walk) (rest .0) (can-hand walk) (walk-some text (walk .at) in-text) (rest .2),
+    ))
 
 -- from the top they are all the lines of the text
 pub walked-whole :
-    {text : RefT (List ℕ)} {walk last : Walk} {lines : List (List ℕ)} → Starts text walk → Walked walk lines last → (lines ≡ linesOf (now text)) × (last .at ≡ length (now text))
+    {text : RefT (List ℕ)} {walk last : Walk} {lines : List (List ℕ)} → Starts text walk → Walked walk lines last
+    → (lines ≡ linesOf (now text)) × (last .at ≡ length (now text))
 walked-whole {text} {walk} {last} {lines} starts walked =
     let found = walked-from walked (omega (arith, starts .at-top)) in
     let same : now (walk .text) ≡ now text = ap now (starts .keeps) in
@@ -126,7 +140,9 @@ one-start one other p q = same-walk (p .keeps ∙ sym (q .keeps)) (p .at-top ∙
 
 pub one-handed :
     {walk : Walk} {one other : Handed} → Hands walk one → Hands walk other
-    → (now (one .line) ≡ now (other .line)) × (one .line .ptr ≡ other .line .ptr) × (one .walk ≡ other .walk)
+    → OnePart (one .line) (other .line) × (one .walk ≡ other .walk)
 one-handed {walk} {one} {other} p q =
-    let found = one-part (walk .text) (one .line) (other .line) (lineStart (now (walk .text)) (walk .at)) (hands-line p) (hands-line q) (lies-start (one .line) (walk .text) (walk .at) (p .lies)) (lies-start (other .line) (walk .text) (walk .at) (q .lies)) in
-    (found .0, found .1, same-walk (p .keeps ∙ sym (q .keeps)) (hands-past p ∙ sym (hands-past q)))
+    let lies = lies-start (one .line) (walk .text) (walk .at) (p .lies) in
+    let lain = lies-start (other .line) (walk .text) (walk .at) (q .lies) in
+    let start = lineStart (now (walk .text)) (walk .at) in
+    (one-part (walk .text) (one .line) (other .line) start (hands-line p) (hands-line q) lies lain, same-walk (p .keeps ∙ sym (q .keeps)) (hands-past p ∙ sym (hands-past q)))

@@ -144,7 +144,9 @@ pub moves-on : (text : List ℕ) (at : ℕ) → at < length text → at < pastLi
 moves-on text at inside = omega (arith, past-is text at, walk-some text at inside)
 
 -- a walk that hands out a line with a byte moves on
-pub walk-further : (text : List ℕ) (at end : ℕ) (line : List ℕ) → line ≡ lineAt text at → (length line ≡ 0 → ⊥) → end ≡ pastLine text at → (at < length text) × (at < end)
+pub walk-further :
+    (text : List ℕ) (at end : ℕ) (line : List ℕ) → line ≡ lineAt text at → (length line ≡ 0 → ⊥) → end ≡ pastLine text at
+    → (at < length text) × (at < end)
 walk-further text at end line is some past =
     by-test (leb (length text) at) (λ done. absurd (some (ap length (is ∙ walk-done text at (leb-true _ _ done) .1))))
     (λ left. let inside : at < length text = leb-false _ _ left in (inside, omega (arith, past, moves-on text at inside)))

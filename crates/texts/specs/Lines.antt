@@ -1,4 +1,5 @@
--- "Each line ends with byte 10. Bytes after the last byte 10, if there are any, count as a line": a text as its lines, and the line at a place. Assumes nothing.
+-- "Each line ends with byte 10. Bytes after the last byte 10, if there are any, count as a line": a text as its lines, the line at a place,
+-- and a part of a text. Assumes nothing.
 use Prim.Native.Nat.{ℕ, suc, _+_, _-_}
 use mathlib.Core.Bool.{cond, _&&_}
 use mathlib.Core.List.{List, [], _∷_}

@@ -1,4 +1,4 @@
--- What it means that a text has lines, that a line is the first of a text, where a part lies in its text, and that a walk goes through a text.
+-- What it means that a text has lines, that a line is the first of a text, where a part lies in its text, and that a walk goes through it.
 -- It is no way of cutting or walking; what the functions of this room answer is proved to be this. Assumes nothing.
 use Prim.Native.Nat.{ℕ, _+_, _≤_, _<_}
 use mathlib.Core.Path.{_≡_}
@@ -29,6 +29,10 @@ pub data FirstLine : List ℕ → List ℕ → Type 0 where
   ended : (body rest : List ℕ) → Unbroken body → FirstLine (body ++ 10 ∷ []) ((body ++ 10 ∷ []) ++ rest)
   all-left : (line : List ℕ) → Unbroken line → FirstLine line line
 
+-- the place past the line that starts at a place
+abbrev pub IsPast : List ℕ → ℕ → ℕ → Type 0
+IsPast text at end = (line : List ℕ) × FirstLine line (drop at text) × (end ≡ at + length line)
+
 -- a part of a text between two places: so many bytes stand before it, and so many up to its end
 pub record Between (text part : List ℕ) (from to : ℕ) : Type 0 where
   pub front : List ℕ
@@ -41,6 +45,10 @@ pub record Between (text part : List ℕ) (from to : ℕ) : Type 0 where
 abbrev pub LiesAt : RefT (List ℕ) → RefT (List ℕ) → ℕ → Type 0
 LiesAt part text place = (part .ptr .0 ≡ text .ptr .0) × (part .ptr .1 ≡ text .ptr .1 + place)
 
+-- two parts that hold the same, in the same place
+abbrev pub OnePart : RefT (List ℕ) → RefT (List ℕ) → Type 0
+OnePart one other = (now one ≡ now other) × (one .ptr ≡ other .ptr)
+
 -- a line lies at its place; where the text does not reach so far it is the text's empty front
 abbrev pub LineLies : RefT (List ℕ) → RefT (List ℕ) → ℕ → Type 0
 LineLies line text at = (at ≤ length (now text) → LiesAt line text at) × (length (now text) < at → LiesAt line text 0)
@@ -50,7 +58,8 @@ pub record Starts (text : RefT (List ℕ)) (walk : Walk) : Type 0 where
   pub keeps : walk .text ≡ text
   pub at-top : walk .at ≡ 0
 
--- "and hands out one line after another until none is left. It goes on from the place it holds; at or past the end of the text none is left"
+-- "and hands out one line after another until none is left. It goes on from the place it holds; at or past the end of the text
+-- none is left"
 pub record Hands (walk : Walk) (handed : Handed) : Type 0 where
   pub first : FirstLine (now (handed .line)) (drop (walk .at) (now (walk .text)))
   pub lies : LineLies (handed .line) (walk .text) (walk .at)
@@ -61,5 +70,5 @@ pub record Hands (walk : Walk) (handed : Handed) : Type 0 where
 pub data Walked : Walk → List (List ℕ) → Walk → Type 0 where
   none-left : (walk : Walk) (handed : Handed) → Hands walk handed → now (handed .line) ≡ [] → Walked walk [] (handed .walk)
   goes-on :
-      (walk last : Walk) (handed : Handed) (lines : List (List ℕ)) → Hands walk handed → 1 ≤ length (now (handed .line)) → Walked (handed .walk) lines last
-      → Walked walk (now (handed .line) ∷ lines) last
+      (walk last : Walk) (handed : Handed) (lines : List (List ℕ)) → Hands walk handed → 1 ≤ length (now (handed .line))
+      → Walked (handed .walk) lines last → Walked walk (now (handed .line) ∷ lines) last

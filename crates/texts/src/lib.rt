@@ -74,7 +74,8 @@ pub fn next<'a>(walk: Walk<'a>) -> Handed<'a>
     }
 }
 
-// For a caller that holds no walk: the place at which a walk starts, and of a walk at a place the line that it hands out and the place that it is then at.
+// For a caller that holds no walk: the place at which a walk starts; and of a walk at a place the line that it hands out,
+// and the place that it is then at.
 pub fn walk_start(text: &[u8]) -> usize
     ensures { λ r. ⌜ r ≡ 0 ⌝ }
 {

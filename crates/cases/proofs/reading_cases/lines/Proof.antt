@@ -40,7 +40,8 @@ walked-place-requires c κs = search needs
 loop-less : tie.Need-loop-less Inv-loop μ-loop
 loop-less c =
     let found = c .before .before .before in
-    omega (arith, walk-further _ _ _ (found .walked-line .result .now) (found .walked-line .ensures .0) (c .before .before .if1 .left) (c .walked-place .ensures))
+    let line = found .walked-line in
+    omega (arith, walk-further _ _ _ (line .result .now) (line .ensures .0) (c .before .before .if1 .left) (c .walked-place .ensures))
 
 loop-again : tie.Need-loop-again Inv-loop μ-loop
 loop-again c = search needs

@@ -14,8 +14,13 @@ abbrev μ-loop : tie.MeasureT-loop
 μ-loop text count₀ at₀ count at = length text - at
 
 -- the line that was handed out has a byte, so the walk moves on inside the text
-further : (k : tie.After-walked-place Inv-loop μ-loop) → (k .before .before .before .loop .at < length (k .before .before .before .before .before .before .args .text .now)) × (k .before .before .before .loop .at < k .walked-place .result)
-further k = let found = k .before .before in walk-further _ _ _ (found .walked-line .result .now) (found .walked-line .ensures .0) (k .before .if1 .left) (k .walked-place .ensures)
+further :
+    (k : tie.After-walked-place Inv-loop μ-loop)
+    → (k .before .before .before .loop .at < length (k .before .before .before .before .before .before .args .text .now))
+    × (k .before .before .before .loop .at < k .walked-place .result)
+further k =
+    let found = k .before .before in
+    walk-further _ _ _ (found .walked-line .result .now) (found .walked-line .ensures .0) (k .before .if1 .left) (k .walked-place .ensures)
 
 walk-start-requires : tie.Need-walk-start-requires Inv-loop μ-loop
 walk-start-requires c κs = search needs
