@@ -1,37 +1,101 @@
--- What this room promises, about the very definitions that its contracts cite. Each is a line over a law of this folder. Assumes nothing.
-use Prim.Native.Nat.{ℕ}
-use mathlib.Core.Path.{_≡_}
+-- What this room promises, of the contracts themselves and of the definitions that they cite. Each is a line over a law of this folder. Assumes nothing.
+use Prim.Native.Nat.{ℕ, _+_, _≤_, _<_}
+use mathlib.Core.Path.{_≡_, refl, sym, ap, _∙_}
 use mathlib.Core.Bool.{true}
-use mathlib.Core.List.{List}
+use mathlib.Core.List.{List, []}
 use mathlib.Core.Logic.{_↔_}
+use lib.ListN.{length, getD, take, drop}
+use contract.Lifetimes.{Lfts}
+use denote.Ref.{RefT}
 use Rattle.ground.specs.Refusal.{right}
 use Rattle.ground.specs.Outcome.{Single}
 use Rattle.ground.proofs.Outcome.{single-value}
-use Rattle.fields.specs.Fields.{isEnded, fieldsOf, field, behind, fieldCount, sameBytes, shapeOf}
+use Rattle.fields.specs.Fields.{tab, isEnded, fieldsOf, sameBytes, shapeOf}
 use Rattle.fields.specs.Meaning.{Splits, HasFields}
+use Rattle.fields.specs.Cutting.{mostFields, cutOf, fieldStart}
+use Rattle.fields.specs.declared.Cut.{Cut}
+use Rattle.fields.proofs.cut_line.Reads as cut-line
+use Rattle.fields.proofs.field.Reads as field
+use Rattle.fields.proofs.same_bytes.Reads as same-bytes
 use Rattle.fields.proofs.Words as words
 use Rattle.fields.proofs.Splits as splits
+use Rattle.fields.proofs.Cutting as cutting
+use Rattle.fields.proofs.Found as found
 
--- a line is ended and has these fields exactly when it splits into them, and has the shape exactly when it splits into so many
+-- "`→` stands for one tab (byte 9)"; a cut keeps the ends of five fields
+pub tab-nine : tab ≡ 9
+tab-nine = refl
+
+pub keeps-five : mostFields ≡ 5
+keeps-five = refl
+
+-- a line is ended and has these fields exactly when it splits into them, and has the shape exactly when it splits into as many as are asked for
 pub splits-exactly : (line : List ℕ) (fields : List (List ℕ)) → ((isEnded line ≡ true) × (fieldsOf line ≡ fields)) ↔ Splits line fields
 splits-exactly = splits.splits-exactly
 
-pub has-fields : (count : ℕ) (line : List ℕ) → (shapeOf count line ≡ right tt) ↔ HasFields count line
+pub has-fields :
+    (least most : ℕ) (line : List ℕ)
+    → (shapeOf least most line ≡ right tt) ↔ ((count : ℕ) × HasFields count line × (least ≤ count) × (count ≤ most))
 has-fields = splits.has-fields
 
 -- two texts are the same byte for byte exactly when they are one
 pub same-exactly : (one other : List ℕ) → (sameBytes one other ≡ true) ↔ (one ≡ other)
 same-exactly = words.same-exactly
 
--- 1d: each public function's contract admits a single outcome; of a returned part it gives the contents
-pub field-count-single : (line : List ℕ) → Single (λ count. count ≡ fieldCount line)
-field-count-single line = single-value (fieldCount line)
+-- `cut_line` counts n fields exactly when the line splits into n, and none exactly when it splits into none
+pub counts-exactly :
+    (κs : Lfts 1) (line : RefT (List ℕ)) (cut : Cut) (after : _) → cut-line.Learnt κs (line, tt) cut after → (count : ℕ) → 1 ≤ count
+    → (cut .count ≡ count) ↔ HasFields count (line .now)
+counts-exactly κs line cut after learnt count some = rw learnt (found.count-exactly (line .now) count some)
 
-pub first-field-single : (line : List ℕ) → Single (λ text. text ≡ field 0 line)
-first-field-single line = single-value (field 0 line)
+pub counts-none :
+    (κs : Lfts 1) (line : RefT (List ℕ)) (cut : Cut) (after : _) → cut-line.Learnt κs (line, tt) cut after
+    → (cut .count ≡ 0) ↔ ((count : ℕ) → HasFields count (line .now) → ⊥)
+counts-none κs line cut after learnt = rw learnt (found.none-exactly (line .now))
 
-pub behind-single : (line : List ℕ) (end : ℕ) → Single (λ rest. rest ≡ behind line end)
-behind-single line end = single-value (behind line end)
+-- of a line that was cut so and splits into fields, `field` gives the one at a place, for the first five
+pub field-exactly :
+    (κs ks : Lfts 1) (line text : RefT (List ℕ)) (cut : Cut) (place : ℕ) (after later : _) → cut-line.Learnt κs (line, tt) cut after
+    → field.Learnt ks (line, (cut, (place, tt))) text later → (fields : List (List ℕ)) → Splits (line .now) fields → place < length fields → place < 5
+    → text .now ≡ getD fields place []
+field-exactly κs ks line text cut place after later was-cut given fields split inside room =
+    given .0 ∙ rw was-cut (found.field-found (line .now) fields split place inside room)
 
-pub same-bytes-single : (one other : List ℕ) → Single (λ same. same ≡ sameBytes one other)
-same-bytes-single one other = single-value (sameBytes one other)
+-- past the count of a cut there is no field
+pub field-none :
+    (κs : Lfts 1) (line : RefT (List ℕ)) (cut : Cut) (place : ℕ) (text : RefT (List ℕ)) (after : _)
+    → field.Learnt κs (line, (cut, (place, tt))) text after → cut .count ≤ place → text .now ≡ []
+field-none κs line cut place text after given past = given .0 ∙ found.field-none (line .now) cut place past
+
+-- a field lies in its line, whatever the cut: in the same block, from a place of the line on, and its bytes are the line's from there
+pub field-lies :
+    (κs : Lfts 1) (line : RefT (List ℕ)) (cut : Cut) (place : ℕ) (text : RefT (List ℕ)) (after : _)
+    → field.Learnt κs (line, (cut, (place, tt))) text after
+    → (text .ptr .0 ≡ line .ptr .0)
+    × ((from : ℕ)
+    × (text .ptr .1 ≡ line .ptr .1 + from)
+    × (from + length (text .now) ≤ length (line .now))
+    × (text .now ≡ take (length (text .now)) (drop from (line .now))))
+field-lies κs line cut place text after given =
+    let lies = cutting.part-lies (line .now) cut place in
+    (given .1 .0, (fieldStart (line .now) cut place, given .1 .1, rw (given .0) (lies .0), rw (given .0) (lies .1)))
+
+-- `same_bytes` says yes exactly when the two texts are one
+pub says-same :
+    (κs : Lfts 2) (one other : RefT (List ℕ)) (same : _) (after : _) → same-bytes.Learnt κs (one, (other, tt)) same after
+    → (same ≡ true) ↔ (one .now ≡ other .now)
+says-same κs one other same after learnt = rw learnt (words.same-exactly (one .now) (other .now))
+
+-- 1d: each public function's contract admits a single outcome; a field's is its bytes and the place where it lies in the line
+pub cut-line-single : (κs : Lfts 1) (line : RefT (List ℕ)) (after : _) → Single (λ cut. cut-line.Learnt κs (line, tt) cut after)
+cut-line-single κs line after = single-value (cutOf (line .now))
+
+pub field-single :
+    (κs : Lfts 1) (line : RefT (List ℕ)) (cut : Cut) (place : ℕ) (one other : RefT (List ℕ)) (after : _)
+    → field.Learnt κs (line, (cut, (place, tt))) one after → field.Learnt κs (line, (cut, (place, tt))) other after
+    → (one .now ≡ other .now) × (one .ptr .0 ≡ other .ptr .0) × (one .ptr .1 ≡ other .ptr .1)
+field-single κs line cut place one other after p q = (p .0 ∙ sym (q .0), p .1 .0 ∙ sym (q .1 .0), p .1 .1 ∙ sym (q .1 .1))
+
+pub same-bytes-single :
+    (κs : Lfts 2) (one other : RefT (List ℕ)) (after : _) → Single (λ same. same-bytes.Learnt κs (one, (other, tt)) same after)
+same-bytes-single κs one other after = single-value (sameBytes (one .now) (other .now))

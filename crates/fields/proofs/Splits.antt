@@ -3,14 +3,16 @@ use Prim.Native.Nat.{ℕ, _≤_}
 use mathlib.Core.Path.{_≡_, refl, sym, ap, _∙_}
 use mathlib.Core.Bool.{Bool, true, false, not, _&&_}
 use mathlib.Core.List.{List, [], _∷_, _++_, append-assoc}
-use mathlib.Core.Logic.{_↔_}
+use mathlib.Core.Logic.{_↔_, _⊎_, inl, inr}
 use lib.ListN.{length}
 use lib.Dec.{eqb}
 use native.Mathlib.Omega.{arith}
-use borrow.Author.Tests.{eq-eqb, eqb-true, not-true}
-use Rattle.ground.specs.Refusal.{right, check}
+use borrow.Author.Tests.{eqb-true, not-true}
+use Rattle.ground.specs.Refusal.{wrong, right, check}
+use Rattle.ground.specs.Range.{within}
 use Rattle.ground.proofs.Tests.{by-test, never-both, first-of, second-of}
 use Rattle.ground.proofs.Refusal.{never-right}
+use Rattle.ground.proofs.Range.{within-from, within-low, within-high}
 use Rattle.texts.specs.Lines.{lineEnd, before}
 use Rattle.fields.specs.Fields.{tab, isNone, isEnded, fieldsOf, shapeOf}
 use Rattle.fields.specs.Meaning.{isClean, allClean, tabbed, Splits, HasFields}
@@ -101,7 +103,7 @@ before-length byte [] = omega arith
 before-length byte (text ∷ texts) = omega arith
 
 -- an ended line splits into its fields
-splits-ended : (line : List ℕ) → isEnded line ≡ true → Splits line (fieldsOf line)
+pub splits-ended : (line : List ℕ) → isEnded line ≡ true → Splits line (fieldsOf line)
 unfolding isEnded fieldsOf allClean isClean tabbed
 splits-ended [] ended = absurd (never-both ended refl)
 splits-ended (byte ∷ rest) ended =
@@ -140,25 +142,42 @@ splits-exactly line fields = (
   λ splits. rw (splits .joined) (fields-of-tabbed fields (splits .some) (splits .clean)),
 )
 
+-- it has it or is refused by 1
+pub shape-ways : (least most : ℕ) (line : List ℕ) → (shapeOf least most line ≡ right tt) ⊎ (shapeOf least most line ≡ wrong 1)
+unfolding shapeOf
+shape-ways least most line =
+    by-test (isEnded line && within least most (length (fieldsOf line))) (λ met. inl (rw met)) (λ unmet. inr (rw unmet))
+
 shaped-met : (met : Bool) → check met 1 ≡ right tt → met ≡ true
 shaped-met true shaped = refl
 shaped-met false shaped = absurd (never-right shaped)
 
--- a line has the shape exactly when it has so many fields
-pub has-fields : (count : ℕ) (line : List ℕ) → (shapeOf count line ≡ right tt) ↔ HasFields count line
+-- a line has the shape exactly when it has as many fields as are asked for
+pub has-fields :
+    (least most : ℕ) (line : List ℕ)
+    → (shapeOf least most line ≡ right tt) ↔ ((count : ℕ) × HasFields count line × (least ≤ count) × (count ≤ most))
 unfolding shapeOf
-has-fields count line = (there, back)
+has-fields least most line = (there, back)
   where
-    there : check (isEnded line && eqb (length (fieldsOf line)) count) 1 ≡ right tt → HasFields count line
+    there :
+        check (isEnded line && within least most (length (fieldsOf line))) 1 ≡ right tt
+        → (count : ℕ) × HasFields count line × (least ≤ count) × (count ≤ most)
     there shaped =
-        let met = shaped-met (isEnded line && eqb (length (fieldsOf line)) count) shaped in
-        record {
-          fields = fieldsOf line;
-          splits = splits-ended line (first-of (isEnded line) (eqb (length (fieldsOf line)) count) met);
-          counted = eqb-true _ _ (second-of (isEnded line) (eqb (length (fieldsOf line)) count) met);
-        }
+        let met = shaped-met (isEnded line && within least most (length (fieldsOf line))) shaped in
+        let inside = second-of (isEnded line) (within least most (length (fieldsOf line))) met in (
+          length (fieldsOf line),
+          record {
+            fields = fieldsOf line;
+            splits = splits-ended line (first-of (isEnded line) (within least most (length (fieldsOf line))) met);
+            counted = refl;
+          },
+          within-low least most _ inside,
+          within-high least most _ inside,
+        )
 
-    back : HasFields count line → check (isEnded line && eqb (length (fieldsOf line)) count) 1 ≡ right tt
-    back has =
-        let facts = splits-exactly line (has .fields) .1 (has .splits) in
-        rw (facts .0, facts .1, eq-eqb _ _ (has .counted))
+    back :
+        ((count : ℕ) × HasFields count line × (least ≤ count) × (count ≤ most))
+        → check (isEnded line && within least most (length (fieldsOf line))) 1 ≡ right tt
+    back p =
+        let facts = splits-exactly line (p .1 .fields) .1 (p .1 .splits) in
+        rw (facts .0, facts .1, p .1 .counted, within-from least most (p .0) (p .2) (p .3))

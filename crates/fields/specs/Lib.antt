@@ -1,4 +1,4 @@
 -- What the contracts of this room cite, and what they are proved to mean.
 pub mod Fields
+pub mod Cutting
 pub mod Meaning
-pub mod Steps

@@ -8,7 +8,7 @@ use Rattle.ground.specs.Refusal.{right}
 use Rattle.ground.specs.Limits.{mostChambers}
 use Rattle.ground.proofs.Refusal.{same-right}
 use Rattle.texts.specs.Lines.{linesOf, lineAt}
-use Rattle.lines.proofs.Promises.{heading-reads}
+use Rattle.lines.proofs.Promises.{heading-ranges}
 use Rattle.book.specs.declared.Book.{Book}
 use Rattle.orders.specs.Answers.{CleanList, orderLines, answersFrom, yeses, bookFor}
 use Rattle.plans.specs.Judging.{judged}
@@ -43,7 +43,7 @@ module _ (list plan : List ℕ) (obeys : Obeys list plan) where
   -- the desk's yeses are what the rule keeps from chambers that are free from hour 0
   yeses-counted : yeses (answersFrom listBook (orderLines list)) ≡ keptOf (lengthsOf listBook) (replicate (listBook .chambers) 0) (map asOrder (obeys .orders))
   yeses-counted =
-      let few = heading-reads (lineAt list 0) (obeys .heading) .0 (obeys .clean .headed) .2 .most in
+      let few = heading-ranges (lineAt list 0) (obeys .heading) (obeys .clean .headed) .1 in
       yeses-are-kept listBook (orderLines list) (obeys .orders) (obeys .clean .ordered .read) (clean-list .unrefused)
       ∙ ap (λ free. keptOf (lengthsOf listBook) free (map asOrder (obeys .orders))) (take-replicate (listBook .chambers) mostChambers 0 few)
 

@@ -8,7 +8,7 @@ use Rattle.ground.specs.Limits.{firstOrderLine}
 use Rattle.lines.specs.declared.Heading.{Heading}
 use Rattle.lines.specs.declared.Order.{Order}
 use Rattle.lines.specs.declared.Load.{Load}
-use Rattle.lines.proofs.Promises.{load-reads}
+use Rattle.lines.proofs.Promises.{load-ranges}
 use Rattle.plans.specs.Meaning.{Each, InTime, holdOf, Apart, GoodLoads}
 use Rattle.plans.proofs.Each.{each-first, each-rest, two-first, two-rest}
 use Rattle.bound.specs.Plans.{KeepsTo, ApartFrom, GoodPlan}
@@ -61,8 +61,8 @@ module _ (heading : Heading) (orders : List Order) where
   good-plan (line ∷ lines) [] good = absurd (cons≢nil (good .read))
   good-plan (line ∷ lines) (load ∷ loads) good =
       let in-time = each-first (good .in-time) in
-      let chamber = load-reads (heading .chambers) line load .0 (head-eq-of-cons-eq (good .read)) .2 in (
-        record { keeps = keeps-to load in-time; numbered = (chamber .least, chamber .most) },
+      let ranges = load-ranges (heading .chambers) line load (head-eq-of-cons-eq (good .read)) in (
+        record { keeps = keeps-to load in-time; numbered = (ranges .1, ranges .2) },
         apart-from load loads in-time (each-rest (good .in-time)) (two-first (good .apart)),
         good-plan lines loads
             (record { read = tail-eq-of-cons-eq (good .read); in-time = each-rest (good .in-time); apart = two-rest (good .apart) }),

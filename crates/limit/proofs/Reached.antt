@@ -6,7 +6,7 @@ use Rattle.classes.specs.Classes.{classOf}
 use Rattle.hours.specs.Reading.{scanned, hourOf, plainOf}
 use Rattle.texts.specs.Lines.{linesOf, lineLength, lineAt}
 use Rattle.fields.specs.Fields.{sameBytes, isEnded, fieldsOf, shapeOf}
-use Rattle.lines.specs.Reading.{steam, steamAt, ranged, plainWithin, hourWithin, headingOf, orderOf, loadOf}
+use Rattle.lines.specs.Reading.{steam, steamAt, ranged, plainWithin, hourWithin, readAll, lineOf, headingOf, orderOf, loadOf}
 use Rattle.choice.specs.BestFit.{offer, bestFit}
 use Rattle.book.specs.Soundness.{freshBook, allUpTo, allMet, soundness, isSound}
 use Rattle.book.specs.Taking.{decided}
@@ -18,17 +18,17 @@ use Rattle.limit.specs.Example.{paperList, paperPlan}
 -- the list begins with a book of two chambers and a run of three hours, and none of its lines is refused
 pub paper-clean : CleanList paperList (freshBook 2 300)
 unfolding
-    opening orderLines answersFrom refusals bytes classOf scanned hourOf plainOf linesOf lineLength lineAt sameBytes isEnded fieldsOf shapeOf steam steamAt ranged plainWithin hourWithin headingOf orderOf decided isSound soundness allMet allUpTo bestFit offer paperList
+    opening orderLines answersFrom refusals bytes classOf scanned hourOf plainOf linesOf lineLength lineAt sameBytes isEnded fieldsOf shapeOf steam steamAt ranged plainWithin hourWithin readAll lineOf headingOf orderOf decided isSound soundness allMet allUpTo bestFit offer paperList
 paper-clean = record { begun = refl; unrefused = refl }
 
 -- the desk says yes five times
 pub paper-yeses : yeses (answersFrom (freshBook 2 300) (orderLines paperList)) ≡ 5
 unfolding
-    orderLines answersFrom yeses bytes classOf scanned hourOf plainOf linesOf isEnded fieldsOf shapeOf ranged plainWithin orderOf decided isSound soundness allMet allUpTo bestFit offer paperList
+    orderLines answersFrom yeses bytes classOf scanned hourOf plainOf linesOf isEnded fieldsOf shapeOf ranged plainWithin hourWithin readAll lineOf orderOf decided isSound soundness allMet allUpTo bestFit offer paperList
 paper-yeses = refl
 
 -- the plan is judged right with nine loads
 pub paper-right : judged paperList paperPlan ≡ right 9
 unfolding
-    judged bothJudged loadsCounted planJudged listJudged noteLoad loadAsked overlapsAny standsIn noteOrder through orderLines bytes classOf scanned hourOf plainOf linesOf lineLength lineAt sameBytes isEnded fieldsOf shapeOf steam steamAt ranged plainWithin hourWithin headingOf orderOf loadOf decided isSound soundness allMet allUpTo bestFit offer paperList paperPlan
+    judged bothJudged loadsCounted planJudged listJudged noteLoad loadAsked overlapsAny standsIn noteOrder through orderLines bytes classOf scanned hourOf plainOf linesOf lineLength lineAt sameBytes isEnded fieldsOf shapeOf steam steamAt ranged plainWithin hourWithin readAll lineOf headingOf orderOf loadOf decided isSound soundness allMet allUpTo bestFit offer paperList paperPlan
 paper-right = refl

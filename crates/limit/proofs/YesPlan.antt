@@ -10,7 +10,7 @@ use Rattle.texts.specs.Lines.{linesOf, lineAt}
 use Rattle.lines.specs.declared.Heading.{Heading}
 use Rattle.lines.specs.declared.Order.{Order}
 use Rattle.lines.specs.declared.Load.{Load}
-use Rattle.lines.proofs.Promises.{heading-reads}
+use Rattle.lines.proofs.Promises.{heading-ranges}
 use Rattle.book.specs.declared.Book.{Book}
 use Rattle.book.specs.declared.Answer.{Answer}
 use Rattle.orders.specs.Answers.{orderLines, answersFrom, yeses, yesPlan, CleanList, bookFor}
@@ -69,7 +69,7 @@ module _ (list : List ℕ) (heading : Heading) (orders : List Order) (clean : ch
   -- they can be written
   loads-writable : Each (Writable (heading .chambers)) loads
   loads-writable =
-      each-so (given-writable (heading-reads (lineAt list 0) heading .0 (clean .headed) .2 .most) (clean .ordered .few)) (loads-given .each)
+      each-so (given-writable (heading-ranges (lineAt list 0) heading (clean .headed) .1) (clean .ordered .few)) (loads-given .each)
 
   -- the lines of their plan are the loads as plan lines
   plan-lines : linesOf (yesPlan firstOrderLine answers) ≡ map loadText loads

@@ -1,376 +1,268 @@
--- Reading goes by what it means: a field, and a line of three fields, reads exactly when it is meant to, and is refused by its first fault. Assumes nothing.
-use Prim.Native.Nat.{ℕ, _≤_}
+-- Reading a line goes by what it means: a line of any number of fields reads exactly when it is meant to, and is refused by its first fault.
+-- Assumes nothing.
+use Prim.Native.Nat.{ℕ, zero, suc, _≤_, _<_}
 use mathlib.Core.Path.{_≡_, refl, sym, ap, _∙_}
-use mathlib.Core.Bool.{_&&_}
-use mathlib.Core.List.{List}
+use mathlib.Core.List.{List, [], _∷_}
 use mathlib.Core.Logic.{_↔_, _⊎_, inl, inr, ⊎-elim}
-use lib.ListN.{length}
-use lib.Dec.{eqb}
+use lib.ListN.{length, getD}
+use native.Mathlib.Omega.{arith}
 use Rattle.ground.specs.Refusal.{Read, wrong, right, _>>=_, _>>_}
-use Rattle.ground.specs.Range.{within}
 use Rattle.ground.specs.Limits.{lastHour, mostChambers, longestRun, lastPlain}
-use Rattle.ground.specs.Spelling.{valueOf}
-use Rattle.ground.proofs.Refusal.{never-right, same-right, same-wrong, checked-right, checked-wrong}
-use Rattle.ground.proofs.Range.{within-from, within-low, within-high, outside-exactly}
-use Rattle.ground.proofs.Tests.{by-test, never-both, not-met}
-use Rattle.classes.specs.Classes.{comma}
-use Rattle.hours.specs.Reading.{hourOf, plainOf}
-use Rattle.hours.proofs.Promises.{reads-exactly, refused-by-three, plain-exactly, refused-by-two}
-use Rattle.fields.specs.Fields.{isEnded, fieldsOf, field, sameBytes, shapeOf}
-use Rattle.lines.specs.Reading.{lastGrower, steam, steamAt, ranged, plainWithin, hourWithin, headingOf, orderOf, loadOf}
-use Rattle.fields.specs.Meaning.{HasFields}
-use Rattle.lines.specs.Meaning.{PlainReads, PlainFault, HourReads, HourFault, WordReads, WordFault, LineFault, HeadingFault, OrderFault, LoadFault}
-use Rattle.lines.specs.Meaning.PlainFault.{unread as no-plain, outside as plain-outside}
-use Rattle.lines.specs.Meaning.HourFault.{unread as no-hour, outside as hour-outside}
-use Rattle.lines.specs.Meaning.WordFault.{other as no-word}
-use Rattle.lines.specs.Meaning.LineFault.{shape as in-shape, one as in-one, two as in-two, last as in-last}
+use Rattle.ground.proofs.Refusal.{never-right, same-right, same-wrong}
+use Rattle.fields.specs.Fields.{fieldsOf, shapeOf}
+use Rattle.fields.proofs.Promises.{splits-exactly, has-fields}
+use Rattle.fields.proofs.Splits.{shape-ways}
+use Rattle.lines.specs.Reading.{lastGrower, readAll, lineOf, headingReaders, orderReaders, loadReaders, headingOf, orderOf, loadOf}
+use Rattle.lines.specs.Meaning.{Kind, the-word, FieldReads, AllRead, no-more, one-more, FirstFault, here, later, Shaped, LineReads, LineMakes, LineFault, misshapen, at-field, headingKinds, orderKinds, loadKinds, HeadingReads, HeadingFault, OrderReads, OrderFault, LoadReads, LoadFault}
 use Rattle.lines.specs.declared.Heading.{Heading}
 use Rattle.lines.specs.declared.Order.{Order}
 use Rattle.lines.specs.declared.Load.{Load}
-use Rattle.fields.proofs.Words.{same-exactly}
-use Rattle.fields.proofs.Splits.{has-fields}
-use Rattle.lines.proofs.LineReading.{any-hour, any-plain}
+use Rattle.lines.proofs.FieldReading.{GoesBy, plain-goes, hour-goes, word-goes, fault-from}
+use Rattle.lines.proofs.LineReading.{none-read}
 
--- a number that is read and held to a range reads as itself where it lies in it
-held-right :
-    (read : Read ℕ) (low high value : ℕ)
-    → ((read >>= λ number. ranged low high number) ≡ right value) ↔ ((read ≡ right value) × (low ≤ value) × (value ≤ high))
-unfolding ranged
-held-right (wrong number) low high value = (λ e. absurd (never-right e), λ p. absurd (never-right (p .0)))
-held-right (right number) low high value = (
-  λ e.
-      let p = checked-right (within low high number) 4 number value .0 e in
-      (ap right (p .1), rw (p .1) at (within-low low high number (p .0)), rw (p .1) at (within-high low high number (p .0))),
-  λ p.
-      let same : number ≡ value = same-right (p .0) in
-      checked-right (within low high number) 4 number value .1 (rw same (within-from low high value (p .1) (p .2)), same),
-)
+-- readers that go by kinds, one by one
+pub data AllGo : List (List ℕ → Read ℕ) → List Kind → Type 0 where
+  none-go : AllGo [] []
+  more-go :
+      {reader : List ℕ → Read ℕ} {readers : List (List ℕ → Read ℕ)} {kind : Kind} {kinds : List Kind} → GoesBy reader kind → AllGo readers kinds
+      → AllGo (reader ∷ readers) (kind ∷ kinds)
 
--- and is refused by its own number, or by 4 where it lies outside
-held-wrong :
-    (read : Read ℕ) (low high given : ℕ)
-    → ((read >>= λ number. ranged low high number) ≡ wrong given)
-    ↔ ((read ≡ wrong given) ⊎ ((number : ℕ) × (read ≡ right number) × ((low ≤ number) × (number ≤ high) → ⊥) × (given ≡ 4)))
-unfolding ranged
-held-wrong (wrong number) low high given =
-    (λ e. inl (ap wrong (same-wrong e)), ⊎-elim (λ e. ap wrong (same-wrong e)) (λ t. absurd (never-right (t .1))))
-held-wrong (right number) low high given = (
-  λ e.
-      let p = checked-wrong (within low high number) 4 number given .0 e in
-      inr (number, refl, outside-exactly low high number .0 (p .0), p .1),
-  ⊎-elim (λ e. absurd (never-right (sym e)))
-      (λ t.
-      let same : number ≡ t .0 = same-right (t .1) in
-      checked-wrong (within low high number) 4 number given .1 (rw same (outside-exactly low high (t .0) .1 (t .2)), t .3)),
-)
+go-as-many : {readers : List (List ℕ → Read ℕ)} {kinds : List Kind} → AllGo readers kinds → length readers ≡ length kinds
+go-as-many none-go = refl
+go-as-many (more-go goes all) = ap suc (go-as-many all)
 
--- A number field.
-module _ (low high : ℕ) (text : List ℕ) where
-  -- it reads exactly when it is a plain number in its range, as what it is worth
-  pub plain-reads : (number : ℕ) → (plainWithin low high text ≡ right number) ↔ PlainReads low high text number
-  unfolding plainWithin
-  plain-reads number = (
+-- what comes of one reading and what is made of it
+bound-right :
+    {A B : Type 0} (read : Read A) (make : A → Read B) (value : B) → (read >>= make) ≡ right value
+    → (first : A) × (read ≡ right first) × (make first ≡ right value)
+bound-right (wrong number) make value e = absurd (never-right e)
+bound-right (right first) make value e = (first, refl, e)
+
+bound-wrong :
+    {A B : Type 0} (read : Read A) (make : A → Read B) (number : ℕ) → (read >>= make) ≡ wrong number
+    → (read ≡ wrong number) ⊎ ((first : A) × (read ≡ right first) × (make first ≡ wrong number))
+bound-wrong (wrong given) make number e = inl (ap wrong (same-wrong e))
+bound-wrong (right first) make number e = inr (first, refl, e)
+
+-- fields that read are read
+read-then :
+    {readers : List (List ℕ → Read ℕ)} {kinds : List Kind} → AllGo readers kinds → {texts : List (List ℕ)} {numbers : List ℕ}
+    → AllRead kinds texts numbers → readAll readers texts ≡ right numbers
+unfolding readAll
+read-then {readers} all no-more = none-read readers
+read-then (more-go goes all) (one-more {number = number} reads rest) = rw (goes .reads _ number .1 reads, read-then all rest)
+
+-- and those that are read do read
+then-read :
+    {readers : List (List ℕ → Read ℕ)} {kinds : List Kind} → AllGo readers kinds → (texts : List (List ℕ)) (numbers : List ℕ)
+    → length texts ≤ length readers → readAll readers texts ≡ right numbers → AllRead kinds texts numbers
+unfolding readAll
+then-read none-go [] numbers few e = rw (← same-right e) no-more
+then-read none-go (text ∷ texts) numbers few e = absurd (omega arith)
+then-read (more-go goes all) [] numbers few e = rw (← same-right e) no-more
+then-read (more-go {reader} {readers} goes all) (text ∷ texts) numbers few e =
+    let one = bound-right (reader text) _ numbers e in
+    let rest = bound-right (readAll readers texts) _ numbers (one .2) in
+    rw (← same-right (rest .2)) (one-more (goes .reads text (one .0) .0 (one .1)) (then-read all texts (rest .0) (omega arith) (rest .1)))
+
+-- the first fault of fields refuses them
+fault-then :
+    {readers : List (List ℕ → Read ℕ)} {kinds : List Kind} → AllGo readers kinds → {texts : List (List ℕ)} {number : ℕ}
+    → FirstFault kinds texts number → readAll readers texts ≡ wrong number
+unfolding readAll
+fault-then (more-go goes all) {number = number} (here fault) = rw (goes .faults _ number .1 fault)
+fault-then (more-go goes all) (later value reads fault) = rw (goes .reads _ value .1 reads, fault-then all fault)
+
+-- and nothing else does
+then-fault :
+    {readers : List (List ℕ → Read ℕ)} {kinds : List Kind} → AllGo readers kinds → (texts : List (List ℕ)) (number : ℕ)
+    → readAll readers texts ≡ wrong number → FirstFault kinds texts number
+unfolding readAll
+then-fault none-go texts number e = absurd (never-right (sym e))
+then-fault (more-go goes all) [] number e = absurd (never-right (sym e))
+then-fault (more-go {reader} {readers} goes all) (text ∷ texts) number e =
+    ⊎-elim (λ refused. here (goes .faults text number .0 refused))
+    (λ one.
+    ⊎-elim (λ refused. later (one .0) (goes .reads text (one .0) .0 (one .1)) (then-fault all texts number refused))
+    (λ rest. absurd (never-right (sym (rest .2)))) (bound-wrong (readAll readers texts) _ number (one .2)))
+    (bound-wrong (reader text) _ number e)
+
+-- A line whose fields are read by readers that go by kinds.
+module _ {readers : List (List ℕ → Read ℕ)} {kinds : List Kind} (all : AllGo readers kinds) (least : ℕ) (line : List ℕ) where
+  -- a line that passes has its shape
+  shape-there : shapeOf least (length readers) line ≡ right tt → Shaped least kinds line (fieldsOf line)
+  shape-there shaped =
+      let has = has-fields least (length readers) line .0 shaped in
+      let facts = splits-exactly line (has .1 .fields) .1 (has .1 .splits) in
+      let count : length (fieldsOf line) ≡ has .0 = ap length (facts .1) ∙ has .1 .counted in
+      record {
+        splits = splits-exactly line (fieldsOf line) .0 (facts .0, refl);
+        enough = omega (arith, count, has .2);
+        most = omega (arith, count, has .3, go-as-many all);
+      }
+
+  -- and a line that has it passes, with these fields
+  shape-back : (fields : List (List ℕ)) → Shaped least kinds line fields → (shapeOf least (length readers) line ≡ right tt) × (fieldsOf line ≡ fields)
+  shape-back fields shaped = (
+    has-fields least (length readers) line .1
+        (length fields, record { fields = fields; splits = shaped .splits; counted = refl }, shaped .enough, omega (arith, shaped .most, go-as-many all)),
+    splits-exactly line fields .1 (shaped .splits) .1,
+  )
+
+  -- it reads exactly when it has its shape and all its fields read
+  pub line-reads : (numbers : List ℕ) → (lineOf least readers line ≡ right numbers) ↔ LineReads least kinds line numbers
+  unfolding lineOf
+  line-reads numbers = (
     λ e.
-        let p = held-right (plainOf text) low high number .0 e in
-        let q = plain-exactly text number .0 (p .0) in
-        record { plain = q .0; worth = q .1; least = p .1; most = p .2 },
-    λ reads. held-right (plainOf text) low high number .1 (plain-exactly text number .1 (reads .plain, reads .worth), reads .least, reads .most),
+        ⊎-elim
+        (λ met.
+        let shaped = shape-there met in
+        let few : length (fieldsOf line) ≤ length readers = omega (arith, shaped .most, go-as-many all) in
+        record { fields = fieldsOf line; shaped = shaped; read = then-read all (fieldsOf line) numbers few (rw met at e) })
+        (λ unmet. absurd (never-right (rw unmet at e))) (shape-ways least (length readers) line),
+    λ reads.
+        let back = shape-back (reads .fields) (reads .shaped) in
+        rw (back .0, back .1) (read-then all (reads .read)),
   )
 
   -- its first fault refuses it
-  plain-fault-then : (number : ℕ) → PlainFault low high text number → plainWithin low high text ≡ wrong number
-  unfolding plainWithin
-  plain-fault-then number (no-plain none) = held-wrong (plainOf text) low high number .1 (inl (refused-by-two text number .1 (refl, none)))
-  plain-fault-then number (plain-outside plain out) =
-      held-wrong (plainOf text) low high number .1 (inr (valueOf text, plain-exactly text (valueOf text) .1 (plain, refl), out, refl))
+  line-fault-then : (number : ℕ) → LineFault least kinds line number → lineOf least readers line ≡ wrong number
+  unfolding lineOf
+  line-fault-then number (misshapen never) =
+      ⊎-elim (λ met. absurd (never (fieldsOf line) (shape-there met))) (λ unmet. rw unmet) (shape-ways least (length readers) line)
+  line-fault-then number (at-field fields shaped fault) =
+      let back = shape-back fields shaped in rw (back .0, back .1) (fault-then all fault)
 
   -- and nothing else does
-  pub plain-fault : (number : ℕ) → (plainWithin low high text ≡ wrong number) ↔ PlainFault low high text number
-  unfolding plainWithin
-  plain-fault number = (
+  pub line-fault : (number : ℕ) → (lineOf least readers line ≡ wrong number) ↔ LineFault least kinds line number
+  unfolding lineOf
+  line-fault number = (
     λ e.
-        ⊎-elim (λ unread. let p = refused-by-two text number .0 unread in rw (p .0) (no-plain (p .1)))
-        (λ t.
-        let p = plain-exactly text (t .0) .0 (t .1) in
-        rw (t .3) (plain-outside (p .0) (rw (p .1) at (t .2))))
-        (held-wrong (plainOf text) low high number .0 e),
-    plain-fault-then number,
+        ⊎-elim (λ met. at-field (fieldsOf line) (shape-there met) (then-fault all (fieldsOf line) number (rw met at e)))
+        (λ unmet.
+        let one : 1 ≡ number = same-wrong (rw unmet at e) in
+        rw (← one)
+        (misshapen (λ fields shaped. absurd (never-right (sym unmet ∙ shape-back fields shaped .0)))))
+        (shape-ways least (length readers) line),
+    line-fault-then number,
   )
 
--- An hour field.
-module _ (low high : ℕ) (text : List ℕ) where
-  -- it reads exactly as the hour that it spells, where that is in its range
-  pub hour-reads : (hour : ℕ) → (hourWithin low high text ≡ right hour) ↔ HourReads low high text hour
-  unfolding hourWithin
-  hour-reads hour = (
+  -- What is made of the numbers of a line is refused by the line's first fault,
+  pub made-fault :
+      {A : Type 0} (make : List ℕ → A) (number : ℕ)
+      → ((lineOf least readers line >>= λ numbers. right (make numbers)) ≡ wrong number) ↔ LineFault least kinds line number
+  made-fault make number = (
     λ e.
-        let p = held-right (hourOf comma text) low high hour .0 e in
-        record { spells = reads-exactly text hour .0 (p .0); least = p .1; most = p .2 },
-    λ reads. held-right (hourOf comma text) low high hour .1 (reads-exactly text hour .1 (reads .spells), reads .least, reads .most),
+        ⊎-elim (λ refused. line-fault number .0 refused) (λ made. absurd (never-right (sym (made .2))))
+        (bound-wrong (lineOf least readers line) (λ numbers. right (make numbers)) number e),
+    λ fault. rw (line-fault number .1 fault),
   )
 
-  -- its first fault refuses it
-  hour-fault-then : (number : ℕ) → HourFault low high text number → hourWithin low high text ≡ wrong number
-  unfolding hourWithin
-  hour-fault-then number (no-hour none) = held-wrong (hourOf comma text) low high number .1 (inl (refused-by-three text number .1 (refl, none)))
-  hour-fault-then number (hour-outside hour spells out) =
-      held-wrong (hourOf comma text) low high number .1 (inr (hour, reads-exactly text hour .1 spells, out, refl))
-
-  -- and nothing else does
-  pub hour-fault : (number : ℕ) → (hourWithin low high text ≡ wrong number) ↔ HourFault low high text number
-  unfolding hourWithin
-  hour-fault number = (
+  -- and made exactly of the numbers that the line reads as
+  pub made-reads :
+      {A : Type 0} (make : List ℕ → A) (values : A)
+      → ((lineOf least readers line >>= λ numbers. right (make numbers)) ≡ right values) ↔ LineMakes make least kinds line values
+  made-reads make values = (
     λ e.
-        ⊎-elim (λ unread. let p = refused-by-three text number .0 unread in rw (p .0) (no-hour (p .1)))
-        (λ t. rw (t .3) (hour-outside (t .0) (reads-exactly text (t .0) .0 (t .1)) (t .2)))
-        (held-wrong (hourOf comma text) low high number .0 e),
-    hour-fault-then number,
+        let made = bound-right (lineOf least readers line) (λ numbers. right (make numbers)) values e in
+        record { numbers = made .0; reads = line-reads (made .0) .0 (made .1); made = same-right (made .2) },
+    λ makes. rw (line-reads (makes .numbers) .1 (makes .reads), makes .made),
   )
 
--- The word of a first line.
-module _ (text : List ℕ) where
-  -- it reads exactly when it stands there, and then as 0
-  pub word-reads : (number : ℕ) → (steamAt text ≡ right number) ↔ WordReads text number
-  unfolding steamAt
-  word-reads number = (
-    λ e.
-        let p = checked-right (sameBytes text steam) 1 0 number .0 e in
-        record { word = same-exactly text steam .0 (p .0); none = sym (p .1) },
-    λ reads. checked-right (sameBytes text steam) 1 0 number .1 (same-exactly text steam .1 (reads .word), sym (reads .none)),
-  )
+-- the readers of each line go by the kinds of its fields
+heading-go : AllGo headingReaders headingKinds
+heading-go = more-go word-goes (more-go (plain-goes 1 mostChambers) (more-go (hour-goes 1 longestRun) none-go))
 
-  -- anything else in its place is refused
-  word-fault-then : (number : ℕ) → WordFault text number → steamAt text ≡ wrong number
-  unfolding steamAt
-  word-fault-then number (no-word differs) =
-      checked-wrong {A = ℕ} (sameBytes text steam) 1 0 number .1 (not-met (λ same. differs (same-exactly text steam .0 same)), refl)
+order-go : AllGo orderReaders orderKinds
+order-go = more-go (plain-goes 1 lastGrower) (more-go (hour-goes 0 lastHour) (more-go (hour-goes 0 lastHour) none-go))
 
-  -- and nothing else is
-  pub word-fault : (number : ℕ) → (steamAt text ≡ wrong number) ↔ WordFault text number
-  unfolding steamAt
-  word-fault number = (
-    λ e.
-        let p = checked-wrong {A = ℕ} (sameBytes text steam) 1 0 number .0 e in
-        rw (p .1) (no-word (λ same. never-both (same-exactly text steam .1 same) (p .0))),
-    word-fault-then number,
-  )
-
--- three readings one after another, made into what they stand for
-abbrev pub made : {A : Type 0} → Read ℕ → Read ℕ → Read ℕ → (ℕ → ℕ → ℕ → A) → Read A
-made one two last make = one >>= λ first. two >>= λ second. last >>= λ third. right (make first second third)
-
--- the three parts of what is made: they are the numbers it is made of, and they make it; the first may be what the first reading always comes to
-pub record Parts {A : Type 0} (one : Read ℕ) (make : ℕ → ℕ → ℕ → A) : Type 0 where
-  pub firstOf : A → ℕ
-  pub secondOf : A → ℕ
-  pub thirdOf : A → ℕ
-  pub kept :
-      (first second third : ℕ) → one ≡ right first
-      → (firstOf (make first second third) ≡ first) × (secondOf (make first second third) ≡ second) × (thirdOf (make first second third) ≡ third)
-  pub whole : (value : A) → make (firstOf value) (secondOf value) (thirdOf value) ≡ value
-
--- they come to a value exactly when each of them comes to its part
-made-right :
-    {A : Type 0} (one two last : Read ℕ) {make : ℕ → ℕ → ℕ → A} (parts : Parts one make) (value : A)
-    → (made one two last make ≡ right value)
-    ↔ ((one ≡ right (parts .firstOf value)) × (two ≡ right (parts .secondOf value)) × (last ≡ right (parts .thirdOf value)))
-made-right (wrong number) two last parts value = (λ e. absurd (never-right e), λ p. absurd (never-right (p .0)))
-made-right (right first) (wrong number) last parts value = (λ e. absurd (never-right e), λ p. absurd (never-right (p .1)))
-made-right (right first) (right second) (wrong number) parts value = (λ e. absurd (never-right e), λ p. absurd (never-right (p .2)))
-made-right (right first) (right second) (right third) {make} parts value = (
-  λ e.
-      let same : make first second third ≡ value = same-right e in
-      let kept = parts .kept first second third refl in (
-        ap right (sym (kept .0) ∙ ap (parts .firstOf) same),
-        ap right (sym (kept .1) ∙ ap (parts .secondOf) same),
-        ap right (sym (kept .2) ∙ ap (parts .thirdOf) same),
-      ),
-  λ p. ap right (rw (same-right (p .0), same-right (p .1), same-right (p .2)) (parts .whole value)),
-)
-
--- the first refusal of three readings
-pub data FirstRefusal (one two last : Read ℕ) (number : ℕ) : Type 0 where
-  of-one : one ≡ wrong number → FirstRefusal one two last number
-  of-two : (first : ℕ) → one ≡ right first → two ≡ wrong number → FirstRefusal one two last number
-  of-last : (first second : ℕ) → one ≡ right first → two ≡ right second → last ≡ wrong number → FirstRefusal one two last number
-
--- where they are refused, it is by their first refusal
-refusal-of : {A : Type 0} (one two last : Read ℕ) (make : ℕ → ℕ → ℕ → A) (number : ℕ) → made one two last make ≡ wrong number → FirstRefusal one two last number
-refusal-of (wrong given) two last make number e = of-one (ap wrong (same-wrong e))
-refusal-of (right first) (wrong given) last make number e = of-two first refl (ap wrong (same-wrong e))
-refusal-of (right first) (right second) (wrong given) make number e = of-last first second refl refl (ap wrong (same-wrong e))
-refusal-of (right first) (right second) (right third) make number e = absurd (never-right (sym e))
-
--- and by that they are
-refused-then : {A : Type 0} (one two last : Read ℕ) (make : ℕ → ℕ → ℕ → A) {number : ℕ} → FirstRefusal one two last number → made one two last make ≡ wrong number
-refused-then one two last make (of-one e) = rw e
-refused-then one two last make (of-two first p e) = rw (p, e)
-refused-then one two last make (of-last first second p q e) = rw (p, q, e)
-
--- a reading that goes by what is meant: by what it means to read as a number, and to be at a fault
-pub record GoesBy (read : Read ℕ) (Reads Fault : ℕ → Type 0) : Type 0 where
-  pub reads : (value : ℕ) → (read ≡ right value) ↔ Reads value
-  pub faults : (number : ℕ) → (read ≡ wrong number) ↔ Fault number
-
--- each kind of field does
-pub plain-goes : (low high : ℕ) (text : List ℕ) → GoesBy (plainWithin low high text) (PlainReads low high text) (PlainFault low high text)
-plain-goes low high text = record { reads = plain-reads low high text; faults = plain-fault low high text }
-
-pub hour-goes : (low high : ℕ) (text : List ℕ) → GoesBy (hourWithin low high text) (HourReads low high text) (HourFault low high text)
-hour-goes low high text = record { reads = hour-reads low high text; faults = hour-fault low high text }
-
-pub word-goes : (text : List ℕ) → GoesBy (steamAt text) (WordReads text) (WordFault text)
-word-goes text = record { reads = word-reads text; faults = word-fault text }
-
--- a number or an hour with no range of its own goes by the range of all of them
-pub any-plain-goes : (text : List ℕ) → GoesBy (plainOf text) (PlainReads 0 lastPlain text) (PlainFault 0 lastPlain text)
-any-plain-goes text = rw any-plain at (plain-goes 0 lastPlain text)
-
-pub any-hour-goes : (text : List ℕ) → GoesBy (hourOf comma text) (HourReads 0 lastHour text) (HourFault 0 lastHour text)
-any-hour-goes text = rw any-hour at (hour-goes 0 lastHour text)
-
--- a line has the shape or is refused by 1
-shape-ways : (count : ℕ) (line : List ℕ) → (shapeOf count line ≡ right tt) ⊎ (shapeOf count line ≡ wrong 1)
-unfolding shapeOf
-shape-ways count line = by-test (isEnded line && eqb (length (fieldsOf line)) count) (λ met. inl (rw met)) (λ unmet. inr (rw unmet))
-
--- what the lines of lists and plans are made of; the word of a first line is no part of what it says
-abbrev headingMade : ℕ → ℕ → ℕ → Heading
-headingMade word chambers run = record { chambers = chambers; run = run }
-
-abbrev orderMade : ℕ → ℕ → ℕ → Order
-orderMade grower ready due = record { grower = grower; ready = ready; due = due }
-
-abbrev loadMade : ℕ → ℕ → ℕ → Load
-loadMade order chamber start = record { order = order; chamber = chamber; start = start }
-
--- A line of three fields, over a shape that goes by what it means to have them.
-module _
-    {A : Type 0} (line : List ℕ) (make : ℕ → ℕ → ℕ → A) {one two last : Read ℕ} {OneReads OneFault TwoReads TwoFault LastReads LastFault : ℕ → Type 0}
-    (one-goes : GoesBy one OneReads OneFault) (two-goes : GoesBy two TwoReads TwoFault) (last-goes : GoesBy last LastReads LastFault)
-  where
-    -- the first refusal among its fields is a fault of it
-    fault-of : {number : ℕ} → HasFields 3 line → FirstRefusal one two last number → LineFault line OneReads OneFault TwoReads TwoFault LastFault number
-    fault-of {number} has (of-one e) = in-one has (one-goes .faults number .0 e)
-    fault-of {number} has (of-two first p e) = in-two first has (one-goes .reads first .0 p) (two-goes .faults number .0 e)
-    fault-of {number} has (of-last first second p q e) =
-        in-last first second has (one-goes .reads first .0 p) (two-goes .reads second .0 q) (last-goes .faults number .0 e)
-
-    -- where it has its fields, it is refused by the first refusal among them
-    refused-by : {number : ℕ} → HasFields 3 line → FirstRefusal one two last number → (shapeOf 3 line >> made one two last make) ≡ wrong number
-    refused-by has refusal = rw (has-fields 3 line .1 has) (refused-then one two last make refusal)
-
-    -- its first fault refuses it
-    fault-then :
-        (number : ℕ) → LineFault line OneReads OneFault TwoReads TwoFault LastFault number → (shapeOf 3 line >> made one two last make) ≡ wrong number
-    fault-then number (in-shape none) = ⊎-elim (λ met. absurd (none (has-fields 3 line .0 met))) (λ unmet. rw unmet) (shape-ways 3 line)
-    fault-then number (in-one has e) = refused-by has (of-one (one-goes .faults number .1 e))
-    fault-then number (in-two first has p e) = refused-by has (of-two first (one-goes .reads first .1 p) (two-goes .faults number .1 e))
-    fault-then number (in-last first second has p q e) =
-        refused-by has (of-last first second (one-goes .reads first .1 p) (two-goes .reads second .1 q) (last-goes .faults number .1 e))
-
-    -- it is refused exactly by its first fault
-    pub line-fault :
-        (number : ℕ)
-        → ((shapeOf 3 line >> made one two last make) ≡ wrong number) ↔ LineFault line OneReads OneFault TwoReads TwoFault LastFault number
-    line-fault number = (
-      λ e.
-          ⊎-elim (λ met. fault-of (has-fields 3 line .0 met) (refusal-of one two last make number (rw met at e)))
-          (λ unmet.
-          let first : 1 ≡ number = same-wrong (rw unmet at e) in
-          rw (sym first) (in-shape (λ has. never-right (sym unmet ∙ has-fields 3 line .1 has))))
-          (shape-ways 3 line),
-      fault-then number,
-    )
-
-    -- it reads exactly when it has its fields and each of them reads as its part
-    pub line-reads :
-        (parts : Parts one make) (values : A)
-        → ((shapeOf 3 line >> made one two last make) ≡ right values)
-        ↔ (HasFields 3 line × OneReads (parts .firstOf values) × TwoReads (parts .secondOf values) × LastReads (parts .thirdOf values))
-    line-reads parts values = (
-      λ e.
-          ⊎-elim
-          (λ met.
-          let p = made-right one two last parts values .0 (rw met at e) in
-          (has-fields 3 line .0 met, one-goes .reads _ .0 (p .0), two-goes .reads _ .0 (p .1), last-goes .reads _ .0 (p .2)))
-          (λ unmet. absurd (never-right (rw unmet at e))) (shape-ways 3 line),
-      λ p.
-          rw (has-fields 3 line .1 (p .0))
-          (made-right one two last parts values .1 (one-goes .reads _ .1 (p .1), two-goes .reads _ .1 (p .2), last-goes .reads _ .1 (p .3))),
-    )
+load-go : (count : ℕ) → AllGo (loadReaders count) (loadKinds count)
+load-go count = more-go (plain-goes 0 lastPlain) (more-go (plain-goes 1 count) (more-go (hour-goes 0 lastHour) none-go))
 
 -- a list's first line
 module _ (line : List ℕ) where
   -- it is refused exactly by its first fault
   pub heading-fault : (number : ℕ) → (headingOf line ≡ wrong number) ↔ HeadingFault line number
   unfolding headingOf
-  heading-fault number =
-      line-fault line headingMade (word-goes (field 0 line)) (plain-goes 1 mostChambers (field 1 line)) (hour-goes 1 longestRun (field 2 line)) number
+  heading-fault number = made-fault heading-go 3 line {A = Heading} _ number
 
-  -- it reads exactly when each of its fields reads as its part
-  pub heading-reads :
-      (values : Heading)
-      → (headingOf line ≡ right values)
-      ↔ (HasFields 3 line × WordReads (field 0 line) 0 × PlainReads 1 mostChambers (field 1 line) (values .chambers)
-      × HourReads 1 longestRun (field 2 line) (values .run))
+  -- it reads exactly when its fields do, as chambers and run
+  pub heading-reads : (values : Heading) → (headingOf line ≡ right values) ↔ HeadingReads line values
   unfolding headingOf
-  heading-reads values =
-      line-reads line headingMade (word-goes (field 0 line)) (plain-goes 1 mostChambers (field 1 line)) (hour-goes 1 longestRun (field 2 line))
-      (record {
-        firstOf = λ values. 0;
-        secondOf = λ values. values .chambers;
-        thirdOf = λ values. values .run;
-        kept = λ word chambers run e. (sym (word-reads (field 0 line) word .0 e .none), refl, refl);
-        whole = λ values. refl;
-      }) values
+  heading-reads values = made-reads heading-go 3 line {A = Heading} _ values
 
 -- an order line
 module _ (line : List ℕ) where
   -- it is refused exactly by its first fault
   pub order-fault : (number : ℕ) → (orderOf line ≡ wrong number) ↔ OrderFault line number
   unfolding orderOf
-  order-fault number =
-      line-fault line orderMade (plain-goes 1 lastGrower (field 0 line)) (any-hour-goes (field 1 line)) (any-hour-goes (field 2 line)) number
+  order-fault number = made-fault order-go 3 line {A = Order} _ number
 
-  -- it reads exactly when each of its fields reads as its part
-  pub order-reads :
-      (values : Order)
-      → (orderOf line ≡ right values)
-      ↔ (HasFields 3 line × PlainReads 1 lastGrower (field 0 line) (values .grower) × HourReads 0 lastHour (field 1 line) (values .ready)
-      × HourReads 0 lastHour (field 2 line) (values .due))
+  -- it reads exactly when its fields do, as grower, ready and due
+  pub order-reads : (values : Order) → (orderOf line ≡ right values) ↔ OrderReads line values
   unfolding orderOf
-  order-reads values =
-      line-reads line orderMade (plain-goes 1 lastGrower (field 0 line)) (any-hour-goes (field 1 line)) (any-hour-goes (field 2 line))
-      (record {
-        firstOf = λ values. values .grower;
-        secondOf = λ values. values .ready;
-        thirdOf = λ values. values .due;
-        kept = λ grower ready due e. (refl, refl, refl);
-        whole = λ values. refl;
-      }) values
+  order-reads values = made-reads order-go 3 line {A = Order} _ values
 
 -- a plan's line, for a list with so many chambers
 module _ (count : ℕ) (line : List ℕ) where
   -- it is refused exactly by its first fault
   pub load-fault : (number : ℕ) → (loadOf count line ≡ wrong number) ↔ LoadFault count line number
   unfolding loadOf
-  load-fault number =
-      line-fault line loadMade (any-plain-goes (field 0 line)) (plain-goes 1 count (field 1 line)) (any-hour-goes (field 2 line)) number
+  load-fault number = made-fault (load-go count) 3 line {A = Load} _ number
 
-  -- it reads exactly when each of its fields reads as its part
-  pub load-reads :
-      (values : Load)
-      → (loadOf count line ≡ right values)
-      ↔ (HasFields 3 line × PlainReads 0 lastPlain (field 0 line) (values .order) × PlainReads 1 count (field 1 line) (values .chamber)
-      × HourReads 0 lastHour (field 2 line) (values .start))
+  -- it reads exactly when its fields do, as order, chamber and start
+  pub load-reads : (values : Load) → (loadOf count line ≡ right values) ↔ LoadReads count line values
   unfolding loadOf
-  load-reads values =
-      line-reads line loadMade (any-plain-goes (field 0 line)) (plain-goes 1 count (field 1 line)) (any-hour-goes (field 2 line))
-      (record {
-        firstOf = λ values. values .order;
-        secondOf = λ values. values .chamber;
-        thirdOf = λ values. values .start;
-        kept = λ order chamber start e. (refl, refl, refl);
-        whole = λ values. refl;
-      }) values
+  load-reads values = made-reads (load-go count) 3 line {A = Load} _ values
+
+-- What is read at a place is of the kind that stands there.
+read-at :
+    {kinds : List Kind} {fields : List (List ℕ)} {numbers : List ℕ} → AllRead kinds fields numbers → (place : ℕ) → place < length fields
+    → FieldReads (getD kinds place the-word) (getD fields place []) (getD numbers place 0)
+read-at no-more place inside = absurd (omega arith)
+read-at (one-more reads rest) zero inside = reads
+read-at (one-more reads rest) (suc place) inside = read-at rest place (omega arith)
+
+-- so the numbers of a first line are in their ranges
+pub heading-ranges :
+    (line : List ℕ) (values : Heading) → headingOf line ≡ right values
+    → (1 ≤ values .chambers) × (values .chambers ≤ 8) × (1 ≤ values .run) × (values .run ≤ 9_999)
+heading-ranges line values e =
+    let reads = heading-reads line values .0 e in
+    let enough = reads .reads .shaped .enough in
+    let chambers = read-at (reads .reads .read) 1 (omega arith) in
+    let run = read-at (reads .reads .read) 2 (omega arith) in
+    rw (← reads .made) (chambers .least, chambers .most, run .least, run .most)
+
+-- of an order line
+pub order-ranges :
+    (line : List ℕ) (values : Order) → orderOf line ≡ right values
+    → (1 ≤ values .grower) × (values .grower ≤ 9_999) × (values .ready ≤ 999_999) × (values .due ≤ 999_999)
+order-ranges line values e =
+    let reads = order-reads line values .0 e in
+    let enough = reads .reads .shaped .enough in
+    let grower = read-at (reads .reads .read) 0 (omega arith) in
+    let ready = read-at (reads .reads .read) 1 (omega arith) in
+    let due = read-at (reads .reads .read) 2 (omega arith) in
+    rw (← reads .made) (grower .least, grower .most, ready .most, due .most)
+
+-- and of a plan line
+pub load-ranges :
+    (count : ℕ) (line : List ℕ) (values : Load) → loadOf count line ≡ right values
+    → (values .order ≤ 9_999) × (1 ≤ values .chamber) × (values .chamber ≤ count) × (values .start ≤ 999_999)
+load-ranges count line values e =
+    let reads = load-reads count line values .0 e in
+    let enough = reads .reads .shaped .enough in
+    let order = read-at (reads .reads .read) 0 (omega arith) in
+    let chamber = read-at (reads .reads .read) 1 (omega arith) in
+    let start = read-at (reads .reads .read) 2 (omega arith) in
+    rw (← reads .made) (order .most, chamber .least, chamber .most, start .most)
+
+-- the fault of a line has a number from 1 to 4
+first-from : {kinds : List Kind} {fields : List (List ℕ)} {number : ℕ} → FirstFault kinds fields number → (1 ≤ number) × (number ≤ 4)
+first-from (here {kind} {field = field} fault) = fault-from kind field fault
+first-from (later value reads fault) = first-from fault
+
+pub line-fault-from : {least : ℕ} {kinds : List Kind} {line : List ℕ} {number : ℕ} → LineFault least kinds line number → (1 ≤ number) × (number ≤ 4)
+line-fault-from (misshapen never) = (omega arith, omega arith)
+line-fault-from (at-field fields shaped fault) = first-from fault

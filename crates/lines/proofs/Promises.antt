@@ -1,65 +1,98 @@
--- What this room promises, about the very definitions that its contracts cite. Each is a line over a law of this folder. Assumes nothing.
-use Prim.Native.Nat.{ℕ}
-use mathlib.Core.Path.{_≡_, sym, ap}
-use mathlib.Core.List.{List}
+-- What this room promises, of the contracts themselves and of the definitions that they cite. Each is a line over a law of this folder. Assumes nothing.
+use Prim.Native.Nat.{ℕ, _≤_}
+use mathlib.Core.Path.{_≡_, refl, sym, ap, _∙_}
+use mathlib.Core.List.{List, [], _∷_}
 use mathlib.Core.Logic.{_↔_}
-use Rattle.ground.specs.Refusal.{wrong, right}
-use Rattle.ground.specs.Limits.{lastHour, mostChambers, longestRun, lastPlain}
+use contract.Lifetimes.{Lfts}
+use denote.Ref.{RefT}
+use Rattle.ground.specs.Refusal.{Read, wrong, right}
 use Rattle.ground.specs.Outcome.{Injective, Single}
 use Rattle.ground.proofs.Refusal.{never-right, same-right, same-wrong}
 use Rattle.ground.proofs.Outcome.{single-answer}
-use Rattle.fields.specs.Fields.{field}
-use Rattle.lines.specs.Reading.{lastGrower, headingOf, orderOf, loadOf, asHeading, asOrder, asLoad}
-use Rattle.fields.specs.Meaning.{HasFields}
-use Rattle.lines.specs.Meaning.{PlainReads, HourReads, WordReads, HeadingFault, OrderFault, LoadFault}
+use Rattle.lines.specs.Reading.{lastGrower, steam, headingOf, orderOf, loadOf, asHeading, asOrder, asLoad}
+use Rattle.lines.specs.Meaning.{Kind, LineFault, HeadingReads, HeadingFault, OrderReads, OrderFault, LoadReads, LoadFault}
 use Rattle.lines.specs.declared.Heading.{Heading}
 use Rattle.lines.specs.declared.Order.{Order}
 use Rattle.lines.specs.declared.Load.{Load}
+use Rattle.lines.specs.declared.HeadingRead.{HeadingRead}
+use Rattle.lines.specs.declared.OrderRead.{OrderRead}
+use Rattle.lines.specs.declared.LoadRead.{LoadRead}
 use Rattle.lines.specs.declared.HeadingRead.the-variants as heading
 use Rattle.lines.specs.declared.OrderRead.the-variants as order
 use Rattle.lines.specs.declared.LoadRead.the-variants as load
+use Rattle.lines.proofs.read_heading.Reads as read-heading
+use Rattle.lines.proofs.read_order.Reads as read-order
+use Rattle.lines.proofs.read_load.Reads as read-load
+use Rattle.lines.proofs.FieldReading as fields
 use Rattle.lines.proofs.Faults as faults
+
+-- "grower (1 to 9,999)", and "the word `steam`"
+pub last-grower : lastGrower ≡ 9_999
+last-grower = refl
+
+pub steam-bytes : steam ≡ 115 ∷ 116 ∷ 101 ∷ 97 ∷ 109 ∷ []
+steam-bytes = fields.steam-bytes
 
 -- 1b: a list's first line is refused by a number exactly when its first fault has that number, and its values are what its fields read as
 pub heading-fault : (line : List ℕ) (number : ℕ) → (headingOf line ≡ wrong number) ↔ HeadingFault line number
 heading-fault = faults.heading-fault
 
-pub heading-reads :
-    (line : List ℕ) (values : Heading)
-    → (headingOf line ≡ right values)
-    ↔ (HasFields 3 line
-    × WordReads (field 0 line) 0
-    × PlainReads 1 mostChambers (field 1 line) (values .chambers)
-    × HourReads 1 longestRun (field 2 line) (values .run))
+pub heading-reads : (line : List ℕ) (values : Heading) → (headingOf line ≡ right values) ↔ HeadingReads line values
 heading-reads = faults.heading-reads
 
 -- 1b: the same of an order line
 pub order-fault : (line : List ℕ) (number : ℕ) → (orderOf line ≡ wrong number) ↔ OrderFault line number
 order-fault = faults.order-fault
 
-pub order-reads :
-    (line : List ℕ) (values : Order)
-    → (orderOf line ≡ right values)
-    ↔ (HasFields 3 line
-    × PlainReads 1 lastGrower (field 0 line) (values .grower)
-    × HourReads 0 lastHour (field 1 line) (values .ready)
-    × HourReads 0 lastHour (field 2 line) (values .due))
+pub order-reads : (line : List ℕ) (values : Order) → (orderOf line ≡ right values) ↔ OrderReads line values
 order-reads = faults.order-reads
 
 -- 1b: and of a plan line for a list with so many chambers
 pub load-fault : (count : ℕ) (line : List ℕ) (number : ℕ) → (loadOf count line ≡ wrong number) ↔ LoadFault count line number
 load-fault = faults.load-fault
 
-pub load-reads :
-    (count : ℕ) (line : List ℕ) (values : Load)
-    → (loadOf count line ≡ right values)
-    ↔ (HasFields 3 line
-    × PlainReads 0 lastPlain (field 0 line) (values .order)
-    × PlainReads 1 count (field 1 line) (values .chamber)
-    × HourReads 0 lastHour (field 2 line) (values .start))
+pub load-reads : (count : ℕ) (line : List ℕ) (values : Load) → (loadOf count line ≡ right values) ↔ LoadReads count line values
 load-reads = faults.load-reads
 
--- the paper's number and values tell the cases of an answer apart
+-- so what was read is in its ranges, and a fault has a number from 1 to 4
+pub heading-ranges :
+    (line : List ℕ) (values : Heading) → headingOf line ≡ right values
+    → (1 ≤ values .chambers) × (values .chambers ≤ 8) × (1 ≤ values .run) × (values .run ≤ 9_999)
+heading-ranges = faults.heading-ranges
+
+pub order-ranges :
+    (line : List ℕ) (values : Order) → orderOf line ≡ right values
+    → (1 ≤ values .grower) × (values .grower ≤ 9_999) × (values .ready ≤ 999_999) × (values .due ≤ 999_999)
+order-ranges = faults.order-ranges
+
+pub load-ranges :
+    (count : ℕ) (line : List ℕ) (values : Load) → loadOf count line ≡ right values
+    → (values .order ≤ 9_999) × (1 ≤ values .chamber) × (values .chamber ≤ count) × (values .start ≤ 999_999)
+load-ranges = faults.load-ranges
+
+pub line-fault-from : {least : ℕ} {kinds : List Kind} {line : List ℕ} {number : ℕ} → LineFault least kinds line number → (1 ≤ number) × (number ≤ 4)
+line-fault-from = faults.line-fault-from
+
+-- the paper's number and values for each case of an answer
+pub heading-as-read : (values : Heading) → asHeading (heading.Read values) ≡ right values
+heading-as-read values = refl
+
+pub heading-as-refused : (number : ℕ) → asHeading (heading.Refused number) ≡ wrong number
+heading-as-refused number = refl
+
+pub order-as-read : (values : Order) → asOrder (order.Read values) ≡ right values
+order-as-read values = refl
+
+pub order-as-refused : (number : ℕ) → asOrder (order.Refused number) ≡ wrong number
+order-as-refused number = refl
+
+pub load-as-read : (values : Load) → asLoad (load.Read values) ≡ right values
+load-as-read values = refl
+
+pub load-as-refused : (number : ℕ) → asLoad (load.Refused number) ≡ wrong number
+load-as-refused number = refl
+
+-- they tell the cases apart
 heading-told : Injective asHeading
 heading-told (heading.Read one) (heading.Read other) same = ap heading.Read (same-right same)
 heading-told (heading.Read one) (heading.Refused other) same = absurd (never-right (sym same))
@@ -78,12 +111,51 @@ load-told (load.Read one) (load.Refused other) same = absurd (never-right (sym s
 load-told (load.Refused one) (load.Read other) same = absurd (never-right same)
 load-told (load.Refused one) (load.Refused other) same = ap load.Refused (same-wrong same)
 
+-- an answer is a case exactly when what was read is what the case stands for
+answers :
+    {A B : Type 0} {reading : A → B} → Injective reading → {answer case : A} {read : B} {Means : Type 0} → reading answer ≡ read → (read ≡ reading case) ↔ Means
+    → (answer ≡ case) ↔ Means
+answers {reading = reading} told {answer} {case} learnt means = (λ same. means .0 (sym learnt ∙ ap reading same), λ meant. told answer case (learnt ∙ means .1 meant))
+
+-- 1b, of the answer itself: `read_heading` reads these values exactly when the line has its three fields and they read as the word,
+-- these chambers from 1 to 8 and this run from 1 to 9,999; and it refuses by a number exactly when the first fault has it
+module _ (κs : Lfts 1) (line : RefT (List ℕ)) (answer : HeadingRead) (after : _) (learnt : read-heading.Learnt κs (line, tt) answer after) where
+  pub heading-read-exactly : (values : Heading) → (answer ≡ heading.Read values) ↔ HeadingReads (line .now) values
+  heading-read-exactly values = answers heading-told learnt (faults.heading-reads (line .now) values)
+
+  pub heading-refused-exactly : (number : ℕ) → (answer ≡ heading.Refused number) ↔ HeadingFault (line .now) number
+  heading-refused-exactly number = answers heading-told learnt (faults.heading-fault (line .now) number)
+
+-- `read_order`: grower from 1 to 9,999, ready and due from 0 to 999,999
+module _ (κs : Lfts 1) (line : RefT (List ℕ)) (answer : OrderRead) (after : _) (learnt : read-order.Learnt κs (line, tt) answer after) where
+  pub order-read-exactly : (values : Order) → (answer ≡ order.Read values) ↔ OrderReads (line .now) values
+  order-read-exactly values = answers order-told learnt (faults.order-reads (line .now) values)
+
+  pub order-refused-exactly : (number : ℕ) → (answer ≡ order.Refused number) ↔ OrderFault (line .now) number
+  order-refused-exactly number = answers order-told learnt (faults.order-fault (line .now) number)
+
+-- `read_load`: order line from 0 to 9,999, chamber from 1 to the list's count, start from 0 to 999,999
+module _
+    (κs : Lfts 1)
+    (line : RefT (List ℕ))
+    (count : ℕ)
+    (answer : LoadRead)
+    (after : _)
+    (learnt : read-load.Learnt κs (line, (count, tt)) answer after)
+  where
+    pub load-read-exactly : (values : Load) → (answer ≡ load.Read values) ↔ LoadReads count (line .now) values
+    load-read-exactly values = answers load-told learnt (faults.load-reads count (line .now) values)
+
+    pub load-refused-exactly : (number : ℕ) → (answer ≡ load.Refused number) ↔ LoadFault count (line .now) number
+    load-refused-exactly number = answers load-told learnt (faults.load-fault count (line .now) number)
+
 -- 1d: each public function's contract admits a single outcome
-pub read-heading-single : (line : List ℕ) → Single (λ answer. asHeading answer ≡ headingOf line)
-read-heading-single line = single-answer asHeading heading-told (headingOf line)
+pub read-heading-single : (κs : Lfts 1) (line : RefT (List ℕ)) (after : _) → Single (λ answer. read-heading.Learnt κs (line, tt) answer after)
+read-heading-single κs line after = single-answer asHeading heading-told (headingOf (line .now))
 
-pub read-order-single : (line : List ℕ) → Single (λ answer. asOrder answer ≡ orderOf line)
-read-order-single line = single-answer asOrder order-told (orderOf line)
+pub read-order-single : (κs : Lfts 1) (line : RefT (List ℕ)) (after : _) → Single (λ answer. read-order.Learnt κs (line, tt) answer after)
+read-order-single κs line after = single-answer asOrder order-told (orderOf (line .now))
 
-pub read-load-single : (line : List ℕ) (count : ℕ) → Single (λ answer. asLoad answer ≡ loadOf count line)
-read-load-single line count = single-answer asLoad load-told (loadOf count line)
+pub read-load-single :
+    (κs : Lfts 1) (line : RefT (List ℕ)) (count : ℕ) (after : _) → Single (λ answer. read-load.Learnt κs (line, (count, tt)) answer after)
+read-load-single κs line count after = single-answer asLoad load-told (loadOf count (line .now))

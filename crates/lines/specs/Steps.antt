@@ -1,24 +1,14 @@
 -- What the private steps of the line readers come to. The public definitions do not rest on it. Assumes nothing.
 use Prim.Native.Nat.{ℕ}
-use Rattle.ground.specs.Refusal.{Read, wrong, right, _>>=_}
-use Rattle.lines.specs.declared.Three.{Three}
+use mathlib.Core.Bool.{cond}
+use lib.Dec.{eqb}
+use Rattle.ground.specs.Refusal.{Read, wrong, right}
 use Rattle.lines.specs.declared.FieldRead.{FieldRead}
-use Rattle.lines.specs.declared.FieldRead.the-variants as one
-use Rattle.lines.specs.declared.ThreeRead.{ThreeRead}
-use Rattle.lines.specs.declared.ThreeRead.the-variants as three
 
--- what one field comes to, and three of them read from the left: "A field that does not read ends the reading of its line there"
+-- what one field comes to
 abbrev pub asField : FieldRead → Read ℕ
-asField (one.Number number) = right number
-asField (one.Refused number) = wrong number
+asField field = cond (eqb (field .refusal) 0) (right (field .number)) (wrong (field .refusal))
 
-abbrev pub asThree : ThreeRead → Read Three
-asThree (three.Numbers numbers) = right numbers
-asThree (three.Refused number) = wrong number
-
-unfoldable pub threeOf : Read ℕ → Read ℕ → Read ℕ → Read Three
-threeOf one two last = do
-  first ← one
-  second ← two
-  third ← last
-  right (record { first = first; second = second; third = third })
+-- the first of two refusals
+abbrev pub first : ℕ → ℕ → ℕ
+first earlier later = cond (eqb earlier 0) later earlier

@@ -1,12 +1,11 @@
 // The lines of order lists and plans as numbers: a heading, an order, a load of a plan.
 // Any bytes may come; what is wrong first, in the paper's order, is the refusal. Assumes nothing.
 ghost use mathlib.Core.Path.{_≡_};
-ghost use mathlib.Core.Bool.{not};
-ghost use lib.Dec.{eqb};
-ghost use Rattle.ground.specs.Refusal.{right};
-ghost use Rattle.fields.specs.Fields.{fieldCount};
+ghost use Rattle.ground.specs.Range.{within};
 ghost use Rattle.lines.specs.Reading.{steamAt, ranged, plainWithin, hourWithin, headingOf, orderOf, loadOf, asHeading, asOrder, asLoad};
-ghost use Rattle.lines.specs.Steps.{threeOf, asField, asThree};
+ghost use Rattle.lines.specs.Steps.{asField, first};
+use fields::cut_line;
+use fields::field;
 use ground::LAST_HOUR;
 use ground::LAST_PLAIN;
 use ground::LONGEST_RUN;
@@ -55,23 +54,10 @@ pub enum LoadRead {
     Refused(u32),
 }
 
-// What one field reads as, or the refusal's number.
-enum FieldRead {
-    Number(u32),
-    Refused(u32),
-}
-
-// The numbers of three fields.
-struct Three {
-    first: u32,
-    second: u32,
-    third: u32,
-}
-
-// What three fields read as, or the number of the first refusal.
-enum ThreeRead {
-    Numbers(Three),
-    Refused(u32),
+// What one field reads as: its number, and the refusal's number or 0.
+struct FieldRead {
+    refusal: u32,
+    number: u32,
 }
 
 // A number in its range, or refusal 4.
@@ -79,147 +65,134 @@ fn ranged(number: u32, low: u32, high: u32) -> FieldRead
     ensures { λ r. ⌜ asField r ≡ ranged low high number ⌝ }
 {
     if number < low {
-        return FieldRead::Refused(4);
+        return FieldRead {
+            refusal: 4,
+            number: 0,
+        };
     }
     if high < number {
-        return FieldRead::Refused(4);
+        return FieldRead {
+            refusal: 4,
+            number: 0,
+        };
     }
-    FieldRead::Number(number)
+    FieldRead { refusal: 0, number }
 }
 
 // A field as a plain number in a range.
-fn plain_in(field: &[u8], low: u32, high: u32) -> FieldRead
-    ensures { λ r. ⌜ asField r ≡ plainWithin low high (now (field .entry)) ⌝ }
+fn plain_in(text: &[u8], low: u32, high: u32) -> FieldRead
+    ensures { λ r. ⌜ asField r ≡ plainWithin low high (now (text .entry)) ⌝ }
 {
-    match hours::read_plain(field) {
+    match hours::read_plain(text) {
         PlainRead::Number(number) => ranged(number, low, high),
-        PlainRead::Refused(number) => FieldRead::Refused(number),
+        PlainRead::Refused(refusal) => FieldRead { refusal, number: 0 },
     }
 }
 
 // A field as an hour in a range.
-fn hour_in(field: &[u8], low: u32, high: u32) -> FieldRead
-    ensures { λ r. ⌜ asField r ≡ hourWithin low high (now (field .entry)) ⌝ }
+fn hour_in(text: &[u8], low: u32, high: u32) -> FieldRead
+    ensures { λ r. ⌜ asField r ≡ hourWithin low high (now (text .entry)) ⌝ }
 {
-    match hours::read_hour(field) {
+    match hours::read_hour(text) {
         HourRead::Hour(hour) => ranged(hour, low, high),
-        HourRead::Refused(number) => FieldRead::Refused(number),
-    }
-}
-
-// Whether a line is not ended or has not three fields.
-fn is_misshapen(line: &[u8]) -> bool
-    ensures { λ r. ⌜ r ≡ not (eqb (fieldCount (now (line .entry))) 3) ⌝ }
-{
-    fields::field_count(line) != 3
-}
-
-// Three fields from the left: the first that does not read ends the reading.
-fn three_of(first: FieldRead, second: FieldRead, third: FieldRead) -> ThreeRead
-    ensures { λ r. ⌜ asThree r ≡ threeOf (asField first) (asField second) (asField third) ⌝ }
-{
-    match first {
-        FieldRead::Number(number) => three_from(number, second, third),
-        FieldRead::Refused(number) => ThreeRead::Refused(number),
-    }
-}
-
-fn three_from(first: u32, second: FieldRead, third: FieldRead) -> ThreeRead
-    ensures { λ r. ⌜ asThree r ≡ threeOf (right first) (asField second) (asField third) ⌝ }
-{
-    match second {
-        FieldRead::Number(number) => three_last(first, number, third),
-        FieldRead::Refused(number) => ThreeRead::Refused(number),
-    }
-}
-
-fn three_last(first: u32, second: u32, third: FieldRead) -> ThreeRead
-    ensures { λ r. ⌜ asThree r ≡ threeOf (right first) (right second) (asField third) ⌝ }
-{
-    match third {
-        FieldRead::Number(number) => ThreeRead::Numbers(Three {
-            first,
-            second,
-            third: number,
-        }),
-        FieldRead::Refused(number) => ThreeRead::Refused(number),
+        HourRead::Refused(refusal) => FieldRead { refusal, number: 0 },
     }
 }
 
 // The word of a list's first line, or refusal 1.
-fn steam_in(field: &[u8]) -> FieldRead
-    ensures { λ r. ⌜ asField r ≡ steamAt (now (field .entry)) ⌝ }
+fn steam_in(text: &[u8]) -> FieldRead
+    ensures { λ r. ⌜ asField r ≡ steamAt (now (text .entry)) ⌝ }
 {
-    if fields::same_bytes(field, b"steam") {
-        return FieldRead::Number(0);
+    if fields::same_bytes(text, b"steam") {
+        return FieldRead {
+            refusal: 0,
+            number: 0,
+        };
     }
-    FieldRead::Refused(1)
+    FieldRead {
+        refusal: 1,
+        number: 0,
+    }
+}
+
+// Whether a line has as many fields as it should.
+fn shaped(count: usize, least: usize, most: usize) -> bool
+    ensures { λ r. ⌜ r ≡ within least most count ⌝ }
+{
+    (least <= count) & (count <= most)
+}
+
+// The first of two refusals, or 0 where there is none.
+fn first(earlier: u32, later: u32) -> u32
+    ensures { λ r. ⌜ r ≡ first earlier later ⌝ }
+{
+    if earlier == 0 { later } else { earlier }
 }
 
 // The first line of a list: refusal 1 for its shape or its word, then its fields from the left.
 pub fn read_heading(line: &[u8]) -> HeadingRead
     ensures { λ r. ⌜ asHeading r ≡ headingOf (now (line .entry)) ⌝ }
 {
-    if is_misshapen(line) {
+    let cut = cut_line(line);
+    if !shaped(cut.count, 3, 3) {
         return HeadingRead::Refused(1);
     }
-    let one = fields::first_field(line);
-    let rest = fields::behind(line, one.len());
-    let two = fields::first_field(rest);
-    let last = fields::first_field(fields::behind(rest, two.len()));
-    let chambers = plain_in(two, 1, MOST_CHAMBERS);
-    let run = hour_in(last, 1, LONGEST_RUN);
-    match three_of(steam_in(one), chambers, run) {
-        ThreeRead::Numbers(read) => HeadingRead::Read(Heading {
-            chambers: read.second,
-            run: read.third,
-        }),
-        ThreeRead::Refused(number) => HeadingRead::Refused(number),
+    let word = steam_in(field(line, cut, 0));
+    let chambers = plain_in(field(line, cut, 1), 1, MOST_CHAMBERS);
+    let run = hour_in(field(line, cut, 2), 1, LONGEST_RUN);
+    let refusal = first(word.refusal, chambers.refusal);
+    let refusal = first(refusal, run.refusal);
+    if refusal != 0 {
+        return HeadingRead::Refused(refusal);
     }
+    HeadingRead::Read(Heading {
+        chambers: chambers.number,
+        run: run.number,
+    })
 }
 
 // An order line: refusal 1 for its shape, then its fields from the left.
 pub fn read_order(line: &[u8]) -> OrderRead
     ensures { λ r. ⌜ asOrder r ≡ orderOf (now (line .entry)) ⌝ }
 {
-    if is_misshapen(line) {
+    let cut = cut_line(line);
+    if !shaped(cut.count, 3, 3) {
         return OrderRead::Refused(1);
     }
-    let one = fields::first_field(line);
-    let rest = fields::behind(line, one.len());
-    let two = fields::first_field(rest);
-    let last = fields::first_field(fields::behind(rest, two.len()));
-    let ready = hour_in(two, 0, LAST_HOUR);
-    let due = hour_in(last, 0, LAST_HOUR);
-    match three_of(plain_in(one, 1, LAST_GROWER), ready, due) {
-        ThreeRead::Numbers(read) => OrderRead::Read(Order {
-            grower: read.first,
-            ready: read.second,
-            due: read.third,
-        }),
-        ThreeRead::Refused(number) => OrderRead::Refused(number),
+    let grower = plain_in(field(line, cut, 0), 1, LAST_GROWER);
+    let ready = hour_in(field(line, cut, 1), 0, LAST_HOUR);
+    let due = hour_in(field(line, cut, 2), 0, LAST_HOUR);
+    let refusal = first(grower.refusal, ready.refusal);
+    let refusal = first(refusal, due.refusal);
+    if refusal != 0 {
+        return OrderRead::Refused(refusal);
     }
+    OrderRead::Read(Order {
+        grower: grower.number,
+        ready: ready.number,
+        due: due.number,
+    })
 }
 
 // A plan line, for a list with so many chambers: refusal 1 for its shape, then its fields from the left.
 pub fn read_load(line: &[u8], count: u32) -> LoadRead
     ensures { λ r. ⌜ asLoad r ≡ loadOf count (now (line .entry)) ⌝ }
 {
-    if is_misshapen(line) {
+    let cut = cut_line(line);
+    if !shaped(cut.count, 3, 3) {
         return LoadRead::Refused(1);
     }
-    let one = fields::first_field(line);
-    let rest = fields::behind(line, one.len());
-    let two = fields::first_field(rest);
-    let last = fields::first_field(fields::behind(rest, two.len()));
-    let chamber = plain_in(two, 1, count);
-    let start = hour_in(last, 0, LAST_HOUR);
-    match three_of(plain_in(one, 0, LAST_PLAIN), chamber, start) {
-        ThreeRead::Numbers(read) => LoadRead::Read(Load {
-            order: read.first,
-            chamber: read.second,
-            start: read.third,
-        }),
-        ThreeRead::Refused(number) => LoadRead::Refused(number),
+    let order = plain_in(field(line, cut, 0), 0, LAST_PLAIN);
+    let chamber = plain_in(field(line, cut, 1), 1, count);
+    let start = hour_in(field(line, cut, 2), 0, LAST_HOUR);
+    let refusal = first(order.refusal, chamber.refusal);
+    let refusal = first(refusal, start.refusal);
+    if refusal != 0 {
+        return LoadRead::Refused(refusal);
     }
+    LoadRead::Read(Load {
+        order: order.number,
+        chamber: chamber.number,
+        start: start.number,
+    })
 }

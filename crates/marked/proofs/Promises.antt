@@ -9,7 +9,7 @@ use Rattle.texts.specs.Lines.{linesOf, lineLength, lineAt, pastLine}
 use Rattle.texts.specs.Meaning.{joined}
 use Rattle.fields.specs.Fields.{sameBytes, isEnded, fieldsOf, shapeOf}
 use Rattle.fields.specs.Meaning.{tabbed}
-use Rattle.lines.specs.Reading.{steam, steamAt, ranged, plainWithin, hourWithin, headingOf, orderOf, loadOf}
+use Rattle.lines.specs.Reading.{steam, steamAt, ranged, plainWithin, hourWithin, readAll, lineOf, headingOf, orderOf, loadOf}
 use Rattle.choice.specs.BestFit.{offer, bestFit}
 use Rattle.book.specs.Soundness.{allUpTo, allMet, soundness, isSound, opened}
 use Rattle.book.specs.Taking.{decided}
@@ -24,11 +24,11 @@ use Rattle.marked.specs.Further.{furtherCases, threeChambers, threeReply
 -- all twelve
 pub marked-cases-hold : AllHold markedCases
 unfolding
-    markedCases paperReply paperList paperPlan bytes spelled spelledWithin hourText classOf scanned hourOf plainOf linesOf lineLength lineAt pastLine joined sameBytes isEnded fieldsOf shapeOf tabbed steam steamAt ranged plainWithin hourWithin headingOf orderOf loadOf offer bestFit allUpTo allMet soundness isSound opened decided opening orderLines answersFrom bookAfter replyLine sumLine numbered repliesFrom replyOf through noteOrder standsIn overlapsAny loadAsked noteLoad listJudged planJudged loadsCounted bothJudged judged
+    markedCases paperReply paperList paperPlan bytes spelled spelledWithin hourText classOf scanned hourOf plainOf linesOf lineLength lineAt pastLine joined sameBytes isEnded fieldsOf shapeOf tabbed steam steamAt ranged plainWithin hourWithin readAll lineOf headingOf orderOf loadOf offer bestFit allUpTo allMet soundness isSound opened decided opening orderLines answersFrom bookAfter replyLine sumLine numbered repliesFrom replyOf through noteOrder standsIn overlapsAny loadAsked noteLoad listJudged planJudged loadsCounted bothJudged judged
 marked-cases-hold = refl
 
 -- and so do the further ones
 pub further-cases-hold : AllHold furtherCases
 unfolding
-    furtherCases threeChambers threeReply eightChambers eightReply shortList bytes spelled spelledWithin hourText classOf scanned hourOf plainOf linesOf lineLength lineAt pastLine joined sameBytes isEnded fieldsOf shapeOf tabbed steam steamAt ranged plainWithin hourWithin headingOf orderOf loadOf offer bestFit allUpTo allMet soundness isSound opened decided opening orderLines answersFrom bookAfter replyLine sumLine numbered repliesFrom replyOf through noteOrder standsIn overlapsAny loadAsked noteLoad listJudged planJudged loadsCounted bothJudged judged
+    furtherCases threeChambers threeReply eightChambers eightReply shortList bytes spelled spelledWithin hourText classOf scanned hourOf plainOf linesOf lineLength lineAt pastLine joined sameBytes isEnded fieldsOf shapeOf tabbed steam steamAt ranged plainWithin hourWithin readAll lineOf headingOf orderOf loadOf offer bestFit allUpTo allMet soundness isSound opened decided opening orderLines answersFrom bookAfter replyLine sumLine numbered repliesFrom replyOf through noteOrder standsIn overlapsAny loadAsked noteLoad listJudged planJudged loadsCounted bothJudged judged
 further-cases-hold = refl

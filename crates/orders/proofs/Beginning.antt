@@ -14,10 +14,8 @@ use Rattle.ground.proofs.Tests.{by-test}
 use Rattle.texts.specs.Lines.{lineAt}
 use Rattle.lines.specs.Reading.{headingOf}
 use Rattle.lines.specs.declared.Heading.{Heading}
-use Rattle.lines.specs.Meaning.{HeadingFault, shape, one, two, last, other as other-word}
-use Rattle.lines.specs.Meaning.PlainFault.{unread as no-plain, outside as plain-outside}
-use Rattle.lines.specs.Meaning.HourFault.{unread as no-hour, outside as hour-outside}
-use Rattle.lines.proofs.Promises.{heading-reads, heading-fault}
+use Rattle.lines.specs.Meaning.{HeadingFault}
+use Rattle.lines.proofs.Promises.{heading-fault, heading-ranges, line-fault-from}
 use Rattle.book.specs.Soundness.{freshBook, opened}
 use Rattle.book.specs.declared.Book.{Book}
 use Rattle.book.proofs.Promises.{opened-fresh}
@@ -30,23 +28,12 @@ unopened = refl
 
 -- the numbers of a first line open a fresh book
 pub heading-opens : (line : List ℕ) (heading : Heading) → headingOf line ≡ right heading → opened (heading .chambers) (heading .run) .book ≡ bookFor heading
-heading-opens line heading reads =
-    let facts = heading-reads line heading .0 reads in
-    opened-fresh (heading .chambers) (heading .run) (facts .2 .least, facts .2 .most, facts .3 .least, facts .3 .most) .1
+heading-opens line heading reads = opened-fresh (heading .chambers) (heading .run) (heading-ranges line heading reads) .1
 
--- a first line is refused by 1 to 4
-heading-most : (line : List ℕ) {number : ℕ} → HeadingFault line number → number ≤ 4
-heading-most line (shape misshapen) = omega arith
-heading-most line (one three (other-word word)) = omega arith
-heading-most line (two first three reads (no-plain fault)) = omega arith
-heading-most line (two first three reads (plain-outside fault out)) = omega arith
-heading-most line (last first second three reads more (no-hour fault)) = omega arith
-heading-most line (last first second three reads more (hour-outside value spells out)) = omega arith
-
--- so its refusal stands at line 1
+-- a first line is refused by 1 to 4, so its refusal stands at line 1
 pub first-line-refused : (line : List ℕ) (number : ℕ) → headingOf line ≡ wrong number → refusedLine number ≡ 1
 first-line-refused line number refused =
-    let most : number ≤ 4 = heading-most line (heading-fault line number .0 refused) in
+    let most : number ≤ 4 = line-fault-from (heading-fault line number .0 refused) .1 in
     rw (ne-eqb number 9 (λ same. omega arith))
 
 -- a first line's book, or its refusal
@@ -60,7 +47,7 @@ fault-of (right heading) number refused = absurd (never-right (sym refused))
 
 -- which is never 9
 nine-never : (line : List ℕ) → bookOf (headingOf line) ≡ wrong 9 → ⊥
-nine-never line refused = omega (arith, heading-most line (heading-fault line 9 .0 (fault-of (headingOf line) 9 refused)))
+nine-never line refused = omega (arith, line-fault-from (heading-fault line 9 .0 (fault-of (headingOf line) 9 refused)) .1)
 
 module _ (text : List ℕ) where
   -- a text that is not too long begins with its first line

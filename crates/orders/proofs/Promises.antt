@@ -10,7 +10,7 @@ use Rattle.ground.specs.Outcome.{Single}
 use Rattle.ground.proofs.Outcome.{single-answer, single-value}
 use Rattle.texts.specs.Lines.{lineLength, lineAt}
 use Rattle.fields.specs.Fields.{isEnded, shapeOf}
-use Rattle.lines.specs.Reading.{headingOf, orderOf}
+use Rattle.lines.specs.Reading.{lineOf, headingOf, orderOf}
 use Rattle.lines.specs.Meaning.{HeadingFault}
 use Rattle.lines.specs.declared.Order.{Order}
 use Rattle.book.specs.Taking.{told, answerOf}
@@ -34,7 +34,7 @@ refused-by-its-first-line = beginning.refused-by-its-first-line
 
 -- an empty text is refused by 1
 pub refused-empty : opening [] ≡ wrong 1
-unfolding opening headingOf shapeOf isEnded lineAt lineLength
+unfolding opening headingOf lineOf shapeOf isEnded lineAt lineLength
 refused-empty = refl
 
 -- 1c: a refused line leaves the book as it stood

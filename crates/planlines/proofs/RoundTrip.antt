@@ -11,22 +11,22 @@ use Rattle.ground.specs.Limits.{mostChambers, lastPlain}
 use Rattle.ground.specs.Spelling.{DigitByte, AllDigits}
 use Rattle.ground.specs.Digits.{lastDigit, spelled}
 use Rattle.ground.proofs.Tests.{both}
-use Rattle.ground.proofs.Range.{within-from}
 use Rattle.ground.proofs.Refusal.{same-right}
 use Rattle.ground.proofs.Digits.{last-is-digit, spelled-digits, spelled-worth, spelled-plain}
 use Rattle.classes.specs.Classes.{comma}
-use Rattle.hours.specs.Reading.{plainOf}
 use Rattle.writer.specs.Writing.{hourText}
-use Rattle.hours.proofs.Promises.{plain-exactly}
+use Rattle.hours.proofs.Promises.{reads-exactly}
 use Rattle.writer.proofs.Writing.{reads-back, hour-text}
 use Rattle.texts.specs.Lines.{lineEnd}
-use Rattle.fields.specs.Fields.{tab, isEnded, fieldsOf, shapeOf}
-use Rattle.lines.specs.Reading.{ranged, plainWithin, loadOf}
+use Rattle.fields.specs.Fields.{tab, isEnded}
+use Rattle.lines.specs.Reading.{loadOf}
+use Rattle.lines.specs.Meaning.{PlainReads, no-more, one-more}
 use Rattle.planlines.specs.Writing.{planText}
 use Rattle.planlines.specs.Meaning.{InRange, PlanText}
-use Rattle.fields.specs.Meaning.{isClean, allClean, tabbed}
+use Rattle.fields.specs.Meaning.{isClean, allClean, tabbed, Splits}
 use Rattle.lines.specs.declared.Load.{Load}
-use Rattle.fields.proofs.Splits.{fields-of-tabbed, splits-exactly}
+use Rattle.fields.proofs.Splits.{fields-of-tabbed}
+use Rattle.lines.proofs.Promises.{load-reads}
 
 -- digits are clean, and so is what is put behind a clean text
 clean-byte : (byte : ℕ) (rest : List ℕ) → (byte ≡ tab → ⊥) → (byte ≡ lineEnd → ⊥) → isClean rest ≡ true → isClean (byte ∷ rest) ≡ true
@@ -69,26 +69,33 @@ module _ (order chamber start : ℕ) where
   pub text-ended : isEnded (planText order chamber start) ≡ true
   text-ended = rw text-tabbed (fields-of-tabbed numbers (omega arith) numbers-clean .0)
 
-  pub text-fields : fieldsOf (planText order chamber start) ≡ numbers
-  text-fields = rw text-tabbed (fields-of-tabbed numbers (omega arith) numbers-clean .1)
+  text-splits : Splits (planText order chamber start) numbers
+  text-splits = record { some = omega arith; clean = numbers-clean; joined = text-tabbed }
 
--- a spelled number reads as itself
-plain-back : (number : ℕ) → number ≤ lastPlain → plainOf (spelled number) ≡ right number
-plain-back number small = plain-exactly (spelled number) number .1 (spelled-plain number small, sym (spelled-worth number))
+-- a spelled number reads as itself, where it is in its range
+plain-back : (number : ℕ) {low high : ℕ} → number ≤ lastPlain → low ≤ number → number ≤ high → PlainReads low high (spelled number) number
+plain-back number small least most =
+    record { plain = spelled-plain number small; worth = sym (spelled-worth number); least = least; most = most }
 
 module _ (order chamber start count : ℕ) (range : InRange order chamber start) (admitted : chamber ≤ count) where
   -- the text reads back as its three numbers
   pub text-reads-back : loadOf count (planText order chamber start) ≡ right (record { order = order; chamber = chamber; start = start })
-  unfolding loadOf shapeOf plainWithin ranged
   text-reads-back =
-      rw (
-        text-ended order chamber start,
-        text-fields order chamber start,
-        plain-back order (omega arith),
-        plain-back chamber (omega arith),
-        within-from 1 count chamber (omega arith) admitted,
-        reads-back comma refl start (range .start-hour),
-      )
+      load-reads count (planText order chamber start) (record { order = order; chamber = chamber; start = start }) .1
+      (record {
+        numbers = order ∷ chamber ∷ start ∷ [];
+        reads =
+            record {
+              fields = numbers order chamber start;
+              shaped = record { splits = text-splits order chamber start; enough = omega arith; most = omega arith };
+              read =
+                  one-more (plain-back order (omega arith) (omega arith) (omega arith))
+                  (one-more (plain-back chamber (omega arith) (omega arith) admitted)
+                  (one-more (record { spells = reads-exactly _ start .0 (reads-back comma refl start (range .start-hour)); least = omega arith; most = range .start-hour })
+                  no-more));
+            };
+        made = refl;
+      })
 
 -- different numbers never give the same bytes
 pub texts-differ :
@@ -110,7 +117,7 @@ plan-text order chamber start range =
       first = spelled order;
       second = spelled chamber;
       third = hourText comma start;
-      splits = splits-exactly (planText order chamber start) (numbers order chamber start) .0 (text-ended order chamber start, text-fields order chamber start);
+      splits = text-splits order chamber start;
       order-spelled = (spelled-plain order (omega arith), spelled-worth order);
       chamber-spelled = (spelled-plain chamber (omega arith), spelled-worth chamber);
       start-spelled = hour-text start (range .start-hour);

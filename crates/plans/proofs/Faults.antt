@@ -10,12 +10,10 @@ use Rattle.ground.specs.Refusal.{wrong, right}
 use Rattle.ground.specs.Limits.{longestText, mostOrders}
 use Rattle.ground.proofs.Tests.{never-both}
 use Rattle.lines.specs.Reading.{orderOf, loadOf}
-use Rattle.lines.specs.Meaning.{HeadingFault, OrderFault, LoadFault, shape, one, two, last, other as other-word}
-use Rattle.lines.specs.Meaning.PlainFault.{unread as no-plain, outside as plain-outside}
-use Rattle.lines.specs.Meaning.HourFault.{unread as no-hour, outside as hour-outside}
 use Rattle.lines.specs.declared.Heading.{Heading}
 use Rattle.lines.specs.declared.Order.{Order}
 use Rattle.lines.specs.declared.Load.{Load}
+use Rattle.lines.proofs.Promises.{line-fault-from}
 use Rattle.plans.specs.Judging.{judged}
 use Rattle.plans.specs.Meaning.{Each, Some, Names, InTime, holdOf, Overlap, OrderWrong, LoadWrong, FirstFault, full, out-of-turn, unlisted, again, early, late, overlapping, list-long, plan-long, in-heading, in-list, in-plan}
 use Rattle.plans.specs.Meaning.OrderWrong.{misread as order-misread}
@@ -25,37 +23,8 @@ use Rattle.plans.proofs.Through.{faultOf}
 use Rattle.plans.proofs.Judged.{list-over, plan-over, fault-exactly}
 
 -- "any of 1 to 6 on any line" of a list
-heading-most : (line : List ℕ) {number : ℕ} → HeadingFault line number → number ≤ 4
-heading-most line (shape misshapen) = omega arith
-heading-most line (one three (other-word word)) = omega arith
-heading-most line (two first three reads (no-plain fault)) = omega arith
-heading-most line (two first three reads (plain-outside fault out)) = omega arith
-heading-most line (last first second three reads also (no-hour fault)) = omega arith
-heading-most line (last first second three reads also (hour-outside value spells out)) = omega arith
-
--- of an order line by itself
-order-most : (line : List ℕ) {number : ℕ} → OrderFault line number → number ≤ 4
-order-most line (shape misshapen) = omega arith
-order-most line (one three (no-plain fault)) = omega arith
-order-most line (one three (plain-outside fault out)) = omega arith
-order-most line (two first three reads (no-hour fault)) = omega arith
-order-most line (two first three reads (hour-outside value spells out)) = omega arith
-order-most line (last first second three reads also (no-hour fault)) = omega arith
-order-most line (last first second three reads also (hour-outside value spells out)) = omega arith
-
--- of a plan line by itself
-load-most : (count : ℕ) (line : List ℕ) {number : ℕ} → LoadFault count line number → number ≤ 4
-load-most count line (shape misshapen) = omega arith
-load-most count line (one three (no-plain fault)) = omega arith
-load-most count line (one three (plain-outside fault out)) = omega arith
-load-most count line (two first three reads (no-plain fault)) = omega arith
-load-most count line (two first three reads (plain-outside fault out)) = omega arith
-load-most count line (last first second three reads also (no-hour fault)) = omega arith
-load-most count line (last first second three reads also (hour-outside value spells out)) = omega arith
-
--- of an order line behind others
 pub order-wrong-most : (earlier : List Order) (line : List ℕ) {number : ℕ} → OrderWrong earlier line number → number ≤ 6
-order-wrong-most earlier line (order-misread fault) = omega (arith, order-most line fault)
+order-wrong-most earlier line (order-misread fault) = omega (arith, line-fault-from fault .1)
 order-wrong-most earlier line (full order read count) = omega arith
 order-wrong-most earlier line (out-of-turn order read room some) = omega arith
 
@@ -67,7 +36,7 @@ order-never-nine earlier line wrongly nine = omega (arith, order-wrong-most earl
 load-never-nine :
     (heading : Heading) (orders : List Order) (earlier : List Load) (line : List ℕ) {number : ℕ} → LoadWrong heading orders earlier line number
     → number ≡ 9 → ⊥
-load-never-nine heading orders earlier line (load-misread fault) nine = omega (arith, load-most (heading .chambers) line fault)
+load-never-nine heading orders earlier line (load-misread fault) nine = omega (arith, line-fault-from fault .1)
 load-never-nine heading orders earlier line (unlisted load read never) nine = omega arith
 load-never-nine heading orders earlier line (again load order read names some) nine = omega arith
 load-never-nine heading orders earlier line (early load order read names none before) nine = omega arith
@@ -82,7 +51,7 @@ module _ (earlier : List Order) (line : List ℕ) where
 
   -- it is given only then
   of-six : {number : ℕ} → OrderWrong earlier line number → number ≡ 6 → ForSix
-  of-six (order-misread fault) same = absurd (omega (arith, order-most line fault))
+  of-six (order-misread fault) same = absurd (omega (arith, line-fault-from fault .1))
   of-six (full order read count) same = (order, read, count)
   of-six (out-of-turn order read room some) same = absurd (omega arith)
 
@@ -97,7 +66,7 @@ module _ (earlier : List Order) (line : List ℕ) where
 
   -- it is given only then
   of-five : {number : ℕ} → OrderWrong earlier line number → number ≡ 5 → ForFive
-  of-five (order-misread fault) same = absurd (omega (arith, order-most line fault))
+  of-five (order-misread fault) same = absurd (omega (arith, line-fault-from fault .1))
   of-five (full order read count) same = absurd (omega arith)
   of-five (out-of-turn order read room some) same = (order, read, room, some)
 
@@ -114,7 +83,7 @@ module _ (heading : Heading) (orders : List Order) (earlier : List Load) (line :
 
   -- it is given only then
   of-eleven : {number : ℕ} → LoadWrong heading orders earlier line number → number ≡ 11 → ForEleven
-  of-eleven (load-misread fault) same = absurd (omega (arith, load-most (heading .chambers) line fault))
+  of-eleven (load-misread fault) same = absurd (omega (arith, line-fault-from fault .1))
   of-eleven (unlisted load read never) same = (load, read, never)
   of-eleven (again load order read names some) same = absurd (omega arith)
   of-eleven (early load order read names never before) same = absurd (omega arith)
@@ -133,7 +102,7 @@ module _ (heading : Heading) (orders : List Order) (earlier : List Load) (line :
 
   -- it is given only then
   of-twelve : {number : ℕ} → LoadWrong heading orders earlier line number → number ≡ 12 → ForTwelve
-  of-twelve (load-misread fault) same = absurd (omega (arith, load-most (heading .chambers) line fault))
+  of-twelve (load-misread fault) same = absurd (omega (arith, line-fault-from fault .1))
   of-twelve (unlisted load read never) same = absurd (omega arith)
   of-twelve (again load order read names some) same = (load, order, read, names, some)
   of-twelve (early load order read names never before) same = absurd (omega arith)
@@ -152,7 +121,7 @@ module _ (heading : Heading) (orders : List Order) (earlier : List Load) (line :
 
   -- it is given only then
   of-thirteen : {number : ℕ} → LoadWrong heading orders earlier line number → number ≡ 13 → ForThirteen
-  of-thirteen (load-misread fault) same = absurd (omega (arith, load-most (heading .chambers) line fault))
+  of-thirteen (load-misread fault) same = absurd (omega (arith, line-fault-from fault .1))
   of-thirteen (unlisted load read never) same = absurd (omega arith)
   of-thirteen (again load order read names some) same = absurd (omega arith)
   of-thirteen (early load order read names never before) same = (load, order, read, names, never, before)
@@ -172,7 +141,7 @@ module _ (heading : Heading) (orders : List Order) (earlier : List Load) (line :
 
   -- it is given only then
   of-fourteen : {number : ℕ} → LoadWrong heading orders earlier line number → number ≡ 14 → ForFourteen
-  of-fourteen (load-misread fault) same = absurd (omega (arith, load-most (heading .chambers) line fault))
+  of-fourteen (load-misread fault) same = absurd (omega (arith, line-fault-from fault .1))
   of-fourteen (unlisted load read never) same = absurd (omega arith)
   of-fourteen (again load order read names some) same = absurd (omega arith)
   of-fourteen (early load order read names never before) same = absurd (omega arith)
@@ -191,7 +160,7 @@ module _ (heading : Heading) (orders : List Order) (earlier : List Load) (line :
 
   -- it is given only then
   of-fifteen : {number : ℕ} → LoadWrong heading orders earlier line number → number ≡ 15 → ForFifteen
-  of-fifteen (load-misread fault) same = absurd (omega (arith, load-most (heading .chambers) line fault))
+  of-fifteen (load-misread fault) same = absurd (omega (arith, line-fault-from fault .1))
   of-fifteen (unlisted load read never) same = absurd (omega arith)
   of-fifteen (again load order read names some) same = absurd (omega arith)
   of-fifteen (early load order read names never before) same = absurd (omega arith)
@@ -210,7 +179,7 @@ module _ (list plan : List ℕ) where
       ⊎ ((length list ≤ longestText) × (longestText < length plan) × (fault ≡ faultOf 9 true 0 0 0))
   nine-long (list-long over) nine = inl (over, refl)
   nine-long (plan-long fits over) nine = inr (fits, over, refl)
-  nine-long (in-heading list-fits plan-fits wrongly) nine = absurd (omega (arith, nine, heading-most _ wrongly))
+  nine-long (in-heading list-fits plan-fits wrongly) nine = absurd (omega (arith, nine, line-fault-from wrongly .1))
   nine-long (in-list heading front line rest orders list-fits plan-fits headed among clean wrongly) nine = absurd (order-never-nine orders line wrongly nine)
   nine-long (in-plan heading orders front line rest loads clean fits among good wrongly) nine = absurd (load-never-nine heading orders loads line wrongly nine)
 

@@ -17,7 +17,7 @@ use Rattle.lines.specs.Reading.{headingOf, orderOf}
 use Rattle.texts.specs.Meaning.{joined}
 use Rattle.lines.specs.declared.Heading.{Heading}
 use Rattle.lines.specs.declared.Order.{Order}
-use Rattle.lines.proofs.Promises.{heading-reads, order-reads, order-fault}
+use Rattle.lines.proofs.Promises.{heading-ranges, order-ranges, order-fault}
 use Rattle.choice.specs.BestFit.{bestFit}
 use Rattle.book.specs.Taking.{decided, nextBook}
 use Rattle.book.specs.Meaning.{Sound, Admitted}
@@ -51,9 +51,8 @@ pub record Tracks (orders : List Order) (known : ListKnown) : Type 0 where
 -- with a first line that reads nothing is known but a sound book
 pub tracks-none : (line : List ℕ) (heading : Heading) → headingOf line ≡ right heading → Tracks [] (noOrders heading)
 tracks-none line heading headed =
-    let facts = heading-reads line heading .0 headed in
     record {
-      sound = fresh-sound (heading .chambers) (heading .run) (facts .2 .least, facts .2 .most, facts .3 .least, facts .3 .most);
+      sound = fresh-sound (heading .chambers) (heading .run) (heading-ranges line heading headed);
       taken = refl;
       reached = each-none;
       clock = λ hour before. absurd (omega arith);
@@ -138,7 +137,7 @@ module _ (known : ListKnown) (seen : List Order) (tracks : Tracks seen known) wh
 
   -- hours that were read are in range
   read-most : (line : List ℕ) (order : Order) → orderOf line ≡ right order → (order .ready ≤ lastHour) × (order .due ≤ lastHour)
-  read-most line order read = let facts = order-reads line order .0 read in (facts .2 .most, facts .3 .most)
+  read-most line order read = let facts = order-ranges line order read in (facts .2, facts .3)
 
   -- a line that is noted reads as an order in its turn
   taken-from : (line : List ℕ) (last : ListKnown) → noteOrder known line ≡ right last → Taken line last

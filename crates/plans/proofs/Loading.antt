@@ -6,10 +6,7 @@ use lib.ListN.{getD, take, replicate}
 use native.Mathlib.Omega.{arith}
 use Rattle.ground.specs.Refusal.{wrong}
 use Rattle.lines.specs.Reading.{loadOf}
-use Rattle.lines.specs.Meaning.{LoadFault, shape, one, two, last}
-use Rattle.lines.specs.Meaning.PlainFault.{unread as no-plain, outside as plain-outside}
-use Rattle.lines.specs.Meaning.HourFault.{unread as no-hour, outside as hour-outside}
-use Rattle.lines.proofs.Promises.{load-fault}
+use Rattle.lines.proofs.Promises.{load-fault, line-fault-from}
 
 -- a buffer of zeros has nothing else
 pub zeros-at : (count place : ℕ) → _≡_ {A = ℕ} (getD (replicate count 0) place 0) 0
@@ -26,14 +23,5 @@ taken-there (other ∷ others) (suc count) zero inside = refl
 taken-there (other ∷ others) (suc count) (suc at) inside = taken-there others count at (omega arith)
 
 -- a plan line is not refused by 0
-fault-some : (count : ℕ) (line : List ℕ) {number : ℕ} → LoadFault count line number → 1 ≤ number
-fault-some count line (shape misshapen) = omega arith
-fault-some count line (one three (no-plain fault)) = omega arith
-fault-some count line (one three (plain-outside fault out)) = omega arith
-fault-some count line (two first three reads (no-plain fault)) = omega arith
-fault-some count line (two first three reads (plain-outside fault out)) = omega arith
-fault-some count line (last first second three reads more (no-hour fault)) = omega arith
-fault-some count line (last first second three reads more (hour-outside value spells out)) = omega arith
-
 pub load-refused : (count : ℕ) (line : List ℕ) (number : ℕ) → loadOf count line ≡ wrong number → number ≡ 0 → ⊥
-load-refused count line number refused none = omega (arith, fault-some count line (load-fault count line number .0 refused))
+load-refused count line number refused none = omega (arith, line-fault-from (load-fault count line number .0 refused) .0)

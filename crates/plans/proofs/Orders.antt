@@ -12,11 +12,8 @@ use Rattle.ground.specs.Limits.{mostOrders}
 use Rattle.ground.proofs.Refusal.{never-right, same-right, refused-by}
 use Rattle.texts.specs.Lines.{linesOf, lineAt, pastLine}
 use Rattle.lines.specs.Reading.{orderOf}
-use Rattle.lines.specs.Meaning.{OrderFault, shape, one, two, last}
-use Rattle.lines.specs.Meaning.PlainFault.{unread as no-plain, outside as plain-outside}
-use Rattle.lines.specs.Meaning.HourFault.{unread as no-hour, outside as hour-outside}
 use Rattle.lines.specs.declared.Order.{Order}
-use Rattle.lines.proofs.Promises.{order-fault}
+use Rattle.lines.proofs.Promises.{order-fault, line-fault-from}
 use Rattle.book.specs.Taking.{decided, nextBook, told, answerOf}
 use Rattle.book.specs.declared.Book.{Book}
 use Rattle.choice.specs.declared.Choice.{Choice}
@@ -46,16 +43,6 @@ pub noted-wrong :
     → Noted book line (record { refusal = number; ready = 0; due = 0; book = book })
 noted-wrong book line number refused =
     record { refused = rw refused; hours = λ order same. absurd (never-right (sym refused ∙ same)); next = rw refused }
-
--- an order line's own refusal is never 0
-fault-some : (line : List ℕ) {number : ℕ} → OrderFault line number → 1 ≤ number
-fault-some line (shape misshapen) = omega arith
-fault-some line (one three (no-plain fault)) = omega arith
-fault-some line (one three (plain-outside fault out)) = omega arith
-fault-some line (two first three reads (no-hour fault)) = omega arith
-fault-some line (two first three reads (hour-outside value spells out)) = omega arith
-fault-some line (last first second three reads more (no-hour fault)) = omega arith
-fault-some line (last first second three reads more (hour-outside value spells out)) = omega arith
 
 -- an order that is answered counts as taken
 taken-counted : (book : Book) (ready : ℕ) (choice : Choice) → nextBook book ready (right choice) .taken ≡ book .taken + 1
@@ -132,7 +119,7 @@ module _ (known : ListKnown) (line : List ℕ) where
 
     -- and so it reads
     kept-as : (read : Read Order) → orderOf line ≡ read → numberOf (decision (known .book) read) ≡ 0 → Kept noted
-    kept-as (wrong number) refused none = absurd (omega (arith, none, fault-some line (order-fault line number .0 refused)))
+    kept-as (wrong number) refused none = absurd (omega (arith, none, line-fault-from (order-fault line number .0 refused) .0))
     kept-as (right order) reads none = kept-decided order (decided (known .book) (order .ready) (order .due)) reads refl none
 
     pub note-kept : noted .refusal ≡ 0 → Kept noted

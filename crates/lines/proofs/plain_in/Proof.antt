@@ -1,5 +1,9 @@
 -- `plain_in` reads its field, and then looks at its range.
+use mathlib.Core.Path.{sym}
+use native.Mathlib.Omega.{arith}
 use borrow.Author.Needs.{needs}
+use borrow.Author.Tests.{ne-eqb}
+use Rattle.hours.proofs.Promises.{refused-by-two}
 use Rattle.lines.specs.Reading.{plainWithin}
 use Rattle.lines.proofs.plain_in.Statement.{statement}
 use Rattle.lines.proofs.plain_in.Tie as tie
@@ -13,8 +17,8 @@ enum-known-number c = search needs
 ranged-requires : tie.Need-ranged-requires
 ranged-requires c κs = search needs
 
-enum-known-number-2 : tie.Need-enum-known-number-2
-enum-known-number-2 c = search needs
+enum-known-refusal : tie.Need-enum-known-refusal
+enum-known-refusal c = search needs
 
 returns : tie.Need-returns
 unfolding plainWithin
@@ -22,7 +26,11 @@ returns c = rw (← c .before .before .before .before .read-plain .ensures, c .b
 
 returns-2 : tie.Need-returns-2
 unfolding plainWithin
-returns-2 c = rw (← c .before .before .before .read-plain .ensures, c .before .number2 .given .1)
+returns-2 c =
+    let read = c .before .before .before .read-plain .ensures in
+    let refused = rw (c .before .refusal .given .1) at read in
+    let some = refused-by-two (c .before .before .before .before .before .args .text .now) (c .before .refusal .given .0 .0) .0 (sym refused) .0 in
+    rw (← read, c .before .refusal .given .1, ne-eqb (c .before .refusal .given .0 .0) 0 (λ none. omega arith))
 
 pub plain-in-spec : {M : Type 1} → statement M
 plain-in-spec =
@@ -31,6 +39,6 @@ plain-in-spec =
     read-plain-requires
     enum-known-number
     ranged-requires
-    enum-known-number-2
+    enum-known-refusal
     returns
     returns-2)

@@ -1,101 +1,97 @@
--- `read_order` refuses a line of the wrong shape, and makes of any other what its three fields read as.
-use Prim.Native.Nat.{ℕ}
-use mathlib.Core.Path.{_≡_, sym, _∙_}
+-- `read_order` refuses a line that has not its shape, and reads the fields of any other by the cut: the first refusal from the left is the answer, or grower, ready and due.
+use mathlib.Core.Path.{_≡_, refl, sym, ap, _∙_}
+use mathlib.Core.List.{[], _∷_}
+use native.Mathlib.Omega.{arith}
 use borrow.Author.Needs.{needs}
-use Rattle.ground.specs.Refusal.{right, _>>=_}
-use Rattle.classes.specs.Classes.{comma}
-use Rattle.hours.specs.Reading.{hourOf}
-use Rattle.fields.specs.Fields.{field}
-use Rattle.lines.specs.Reading.{orderOf, plainWithin, lastGrower}
-use Rattle.lines.specs.declared.Order.{Order}
-use Rattle.lines.specs.Steps.{asThree}
-use Rattle.fields.proofs.Splitting.{three-found}
-use Rattle.lines.proofs.LineReading.{shape-failed, shape-tested, made-of-line, any-hour}
+use borrow.Author.Tests.{eq-eqb, ne-eqb, not-true, not-false}
+use Rattle.ground.specs.Limits.{lastHour}
+use Rattle.fields.specs.Cutting.{fieldAt}
+use Rattle.lines.specs.Reading.{lineOf, lastGrower, plainWithin, hourWithin, orderReaders, orderOf}
+use Rattle.lines.proofs.LineReading.{outcome, refusalFrom, WereRead, done, next, line-misshapen, line-read}
 use Rattle.lines.proofs.read_order.Statement.{statement}
 use Rattle.lines.proofs.read_order.Tie as tie
 
--- what the three numbers stand for
-made : ℕ → ℕ → ℕ → Order
-made first second third = record { grower = first; ready = second; due = third }
+cut-line-requires : tie.Need-cut-line-requires
+cut-line-requires c κs = search needs
 
-is-misshapen-requires : tie.Need-is-misshapen-requires
-is-misshapen-requires c κs = search needs
+shaped-requires : tie.Need-shaped-requires
+shaped-requires c κs = search needs
 
 returns : tie.Need-returns
 unfolding orderOf
-returns c = rw (shape-failed _ (sym (c .before .is-misshapen .ensures) ∙ c .if1 .taken))
+returns c =
+    let cut = c .before .before in
+    rw
+    (line-misshapen 3 orderReaders (cut .before .before .args .line .now) (cut .cut-line .result) (cut .cut-line .ensures) (omega arith)
+    (sym (c .before .shaped .ensures) ∙ not-true (c .before .shaped .result) (c .if1 .taken)))
 
-first-field-requires : tie.Need-first-field-requires
-first-field-requires c κs = search needs
-
-behind-requires : tie.Need-behind-requires
-behind-requires c κs = search needs
-
-first-field-requires-2 : tie.Need-first-field-requires-2
-first-field-requires-2 c κs = search needs
-
-behind-requires-2 : tie.Need-behind-requires-2
-behind-requires-2 c κs = search needs
-
-first-field-requires-3 : tie.Need-first-field-requires-3
-first-field-requires-3 c κs = search needs
-
-hour-in-requires : tie.Need-hour-in-requires
-hour-in-requires c κs = search needs
-
-hour-in-requires-2 : tie.Need-hour-in-requires-2
-hour-in-requires-2 c κs = search needs
+field-requires : tie.Need-field-requires
+field-requires c κs = search needs
 
 plain-in-requires : tie.Need-plain-in-requires
 plain-in-requires c κs = search needs
 
-three-of-requires : tie.Need-three-of-requires
-three-of-requires c κs = search needs
+field-requires-2 : tie.Need-field-requires-2
+field-requires-2 c κs = search needs
 
-enum-known-read : tie.Need-enum-known-read
-enum-known-read c = search needs
+hour-in-requires : tie.Need-hour-in-requires
+hour-in-requires c κs = search needs
 
-enum-known-number : tie.Need-enum-known-number
-enum-known-number c = search needs
+field-requires-3 : tie.Need-field-requires-3
+field-requires-3 c κs = search needs
 
--- past the shape, the line is made of what its fields read as
-read-as : (c : tie.After-three-of) → orderOf (c .before .before .before .before .before .before .before .before .before .before .before .before .args .line .now) ≡ (asThree (c .three-of .result) >>= λ numbers. right (made (numbers .first) (numbers .second) (numbers .third)))
-unfolding orderOf made
-read-as c =
-    let third = c .before .before .before .before in
+hour-in-requires-2 : tie.Need-hour-in-requires-2
+hour-in-requires-2 c κs = search needs
+
+first-requires : tie.Need-first-requires
+first-requires c κs = search needs
+
+first-requires-2 : tie.Need-first-requires-2
+first-requires-2 c κs = search needs
+
+-- past the shape, what the line comes to, by the refusal and the numbers
+comes-to :
+    (c : tie.After-first2)
+    → lineOf 3 orderReaders (c .before .before .before .before .before .before .before .before .before .before .before .before .args .line .now)
+    ≡ outcome (c .first2 .result) (c .before .before .before .before .before .before .plain-in .result .number ∷ c .before .before .before .before .hour-in .result .number ∷ c .before .before .hour-in2 .result .number ∷ [])
+unfolding refusalFrom
+comes-to c =
+    let third = c .before .before in
     let second = third .before .before in
-    let first = second .before .before in
-    let shaped = first .before in
-    let line = shaped .before .before .before .args .line .now in
-    let found = three-found line (first .first-field .ensures) (second .before .behind .ensures) (second .first-field2 .ensures) (third .before .behind2 .ensures) (third .first-field3 .ensures) in
-    made-of-line line (plainWithin 1 lastGrower (field 0 line)) (hourOf comma (field 1 line)) (hourOf comma (field 2 line)) made (asThree (c .three-of .result))
-    (shape-tested line (sym (shaped .before .is-misshapen .ensures) ∙ shaped .if1 .left))
-    (c .three-of .ensures ∙ rw (c .before .plain-in .ensures, c .before .before .before .hour-in .ensures, c .before .before .hour-in2 .ensures, ← any-hour (field 1 line), ← any-hour (field 2 line), ← first .first-field .ensures, ← found .0, ← found .1))
+    let one = second .before .before in
+    let passed = one .before .before in
+    let cut = passed .before .before in
+    let read =
+    line-read 3 orderReaders (cut .before .before .args .line .now) (cut .cut-line .result) (cut .cut-line .ensures) (omega arith)
+    (one .plain-in .result ∷ second .hour-in .result ∷ third .hour-in2 .result ∷ [])
+    (sym (passed .before .shaped .ensures) ∙ not-false (passed .before .shaped .result) (passed .if1 .left)) (omega arith) (λ low high. omega arith)
+    (next (one .plain-in .ensures ∙ ap (plainWithin 1 lastGrower) (one .before .field .ensures .0))
+    (next (second .hour-in .ensures ∙ ap (hourWithin 0 lastHour) (second .before .field2 .ensures .0))
+    (next (third .hour-in2 .ensures ∙ ap (hourWithin 0 lastHour) (third .before .field3 .ensures .0)) done))) in
+    rw (← c .before .first .ensures, ← c .first2 .ensures) at read
 
 returns-2 : tie.Need-returns-2
-unfolding made
-returns-2 c = rw (read-as (c .before .before .before), c .before .read .given .1)
+unfolding orderOf
+returns-2 c = rw (comes-to (c .before), ne-eqb (c .before .first2 .result) 0 (λ none. omega arith))
 
 returns-3 : tie.Need-returns-3
-unfolding made
-returns-3 c = rw (read-as (c .before .before .before), c .before .number .given .1)
+unfolding orderOf
+returns-3 c = rw (comes-to (c .before), eq-eqb (c .before .first2 .result) 0 (omega arith))
 
 pub read-order-spec : {M : Type 1} → statement M
 read-order-spec =
     tie.close
     (tie.spec
-    is-misshapen-requires
+    cut-line-requires
+    shaped-requires
     returns
-    first-field-requires
-    behind-requires
-    first-field-requires-2
-    behind-requires-2
-    first-field-requires-3
-    hour-in-requires
-    hour-in-requires-2
+    field-requires
     plain-in-requires
-    three-of-requires
-    enum-known-read
-    enum-known-number
+    field-requires-2
+    hour-in-requires
+    field-requires-3
+    hour-in-requires-2
+    first-requires
+    first-requires-2
     returns-2
     returns-3)

@@ -1,7 +1,7 @@
--- `ends_field` answers as its definition says, class by class.
+-- `in_field` answers as its definition says, class by class.
 use borrow.Author.Needs.{needs}
-use Rattle.fields.proofs.ends_field.Statement.{statement}
-use Rattle.fields.proofs.ends_field.Tie as tie
+use Rattle.fields.proofs.in_field.Statement.{statement}
+use Rattle.fields.proofs.in_field.Tie as tie
 
 enum-told : tie.Need-enum-told
 enum-told c = search needs
@@ -33,8 +33,8 @@ returns-4 c = rw (c .enum-told4 .given .1)
 returns-5 : tie.Need-returns-5
 returns-5 c = rw (c .enum-told5 .given .1)
 
-pub ends-field-spec : {M : Type 1} → statement M
-ends-field-spec =
+pub in-field-spec : {M : Type 1} → statement M
+in-field-spec =
     tie.close
     (tie.spec
     enum-told
