@@ -2,4 +2,9 @@
 pub mod Beginning
 pub mod Places
 pub mod Counting
+pub mod FirstLines
+pub mod Opening
+pub mod Steps
+pub mod Answering
+pub mod Tallies
 pub mod Promises

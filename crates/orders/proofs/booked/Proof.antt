@@ -11,7 +11,7 @@ past-requires : tie.Need-past-requires
 past-requires c κs = search needs
 
 returns : tie.Need-returns
-returns c = let took = c .before .before .take .ensures in (refl, took .said, rw (c .past .ensures, took .next))
+returns c = let took = c .before .before .take .ensures in (refl, took .said, rw (← took .next) (c .past .ensures))
 
 pub booked-spec : {M : Type 1} → statement M
 booked-spec = tie.close (tie.spec take-requires past-requires returns)
