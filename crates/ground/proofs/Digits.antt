@@ -132,6 +132,9 @@ spelled-meant =
       worth = omega (arith, value-more front (lastDigit number), before .worth);
     }))
 
+pub spelled-some : (number : ℕ) → 1 ≤ length (spelled number)
+spelled-some number = spelled-meant number .some
+
 pub spelled-worth : (number : ℕ) → valueOf (spelled number) ≡ number
 spelled-worth number = spelled-meant number .worth
 

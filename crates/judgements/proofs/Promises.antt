@@ -13,8 +13,8 @@ use Rattle.plans.specs.declared.Judgement.{Judgement}
 use Rattle.judgements.specs.Judgements.{judgementLine}
 use Rattle.judgements.proofs.write_judgement.Reads as write-judgement
 
--- 1b, 1c: a judgement is refused by 7 exactly when its line is longer than the buffer, and every byte stays; in every other case its line stands at the front,
--- every other byte stays, and its length is answered
+-- 1b, 1c: a judgement is refused by 7 exactly when its line is longer than the buffer, and every byte stays; in every other case its line
+-- stands at the front, every other byte stays, and its length is answered
 pub judgement-writes :
     (κs : Lfts 1) (judgement : Judgement) (buffer : _) (answer : Written) (after : _) → write-judgement.Learnt κs (judgement, (buffer, tt)) answer after
     → Writes (Unit {0}) (judgementLine judgement) (now buffer) answer (now (after .1 .0))

@@ -1,4 +1,5 @@
--- What this room promises, of the answer itself and of the text that it is about. Each is a line over a law of this folder or of the writer. Assumes nothing.
+-- What this room promises, of the answer itself and of the text that it is about.
+-- Each is a line over a law of this folder or of the writer. Assumes nothing.
 use Prim.Native.Nat.{ℕ, _≤_}
 use mathlib.Core.Path.{_≡_, refl, sym, ap, _∙_}
 use lib.ListN.{take}
@@ -28,8 +29,8 @@ write-plan-line-single κs order chamber start buffer one other held kept p q = 
 pub plan-text : (order chamber start : ℕ) → InRange order chamber start → PlanText order chamber start (planText order chamber start)
 plan-text = back.plan-text
 
--- 1b, 1c: a plan line is refused by 4 exactly when a number is out of its range, whatever the room, then by 7 exactly when its text is longer than the buffer,
--- and every byte stays; in every other case its text stands at the front, every other byte stays, and its length is answered
+-- 1b, 1c: a plan line is refused by 4 exactly when a number is out of its range, whatever the room, then by 7 exactly when its text is longer
+-- than the buffer, and every byte stays; in every other case its text stands at the front, every other byte stays, and its length is answered
 pub plan-line-writes :
     (κs : Lfts 1) (order chamber start : ℕ) (buffer : _) (answer : Written) (after : _)
     → write-plan-line.Learnt κs (order, (chamber, (start, (buffer, tt)))) answer after

@@ -12,7 +12,8 @@ pub record InRange (order chamber start : ℕ) : Type 0 where
   pub chamber-number : (1 ≤ chamber) × (chamber ≤ 8)
   pub start-hour : start ≤ 999_999
 
--- "Each line: line number of the order in its list (the first line is 1, so orders start at 2), chamber, start hour": these three fields and no more
+-- "Each line: line number of the order in its list (the first line is 1, so orders start at 2), chamber, start hour":
+-- these three fields and no more
 pub record PlanText (order chamber start : ℕ) (text : List ℕ) : Type 0 where
   pub first : List ℕ
   pub second : List ℕ

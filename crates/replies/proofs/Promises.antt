@@ -1,5 +1,5 @@
--- What this room promises, of the answers themselves and of the definitions that its contracts cite. Each is a line over a law of this folder or of the writer.
--- Assumes nothing.
+-- What this room promises, of the answers themselves and of the definitions that its contracts cite.
+-- Each is a line over a law of this folder or of the writer. Assumes nothing.
 use Prim.Native.Nat.{ℕ, suc}
 use mathlib.Core.Path.{_≡_, refl, sym, ap, _∙_}
 use mathlib.Core.Bool.{true}
@@ -46,8 +46,9 @@ pub clean-reply :
     ≡ numbered 2 (answersFrom book (orderLines text)) ++ sumLine (length (orderLines text)) (yeses (answersFrom book (orderLines text))) ∷ []
 clean-reply text book clean = reply-lines text ∙ ap (repliesBy text) (clean .begun) ∙ sums.clean-replies text book clean
 
--- 1b, 1c: a reply is refused by 4 exactly when it is a yes with a start above 999,999, whatever the room, then by 7 exactly when its line is longer than the
--- buffer, and every byte stays; in every other case its line stands at the front, every other byte stays, and its length is answered
+-- 1b, 1c: a reply is refused by 4 exactly when it is a yes with a start above 999,999, whatever the room, then by 7 exactly when its line
+-- is longer than the buffer, and every byte stays; in every other case its line stands at the front, every other byte stays, and its length
+-- is answered
 pub answer-writes :
     (κs : Lfts 1) (line : ℕ) (given : Answer) (buffer : _) (answer : Written) (after : _) → write-answer.Learnt κs (line, (given, (buffer, tt))) answer after
     → Writes (StartsPastLast given → ⊥) (replyLine line given) (now buffer) answer (now (after .1 .1 .0))

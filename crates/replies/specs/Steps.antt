@@ -31,6 +31,6 @@ replyPut line answer = right (spelled line) ∷ answerPut answer
 abbrev pub sumPut : ℕ → ℕ → List (Read (List ℕ))
 sumPut taken kept = right (bytes "sum") ∷ right (spelled taken) ∷ right (spelled kept) ∷ []
 
--- room enough for the fields of any answer: a word, a number of at most ten digits and an hour of seven bytes, each with the byte that stops it
+-- room enough for the fields of any answer: a word, a number of at most ten digits and an hour of seven bytes, each with its stop
 abbrev pub answerRoom : ℕ
 answerRoom = 24

@@ -16,7 +16,8 @@ use writer::put_number;
 use writer::put_word;
 use writer::write_line;
 
-// Puts the fields of a yes behind a line so far: refusal 4 where the start is above the last hour. They are few enough for the room of a line.
+// Puts the fields of a yes behind a line so far: refusal 4 where the start is above the last hour.
+// They are short enough for the room of a line.
 fn put_yes(so_far: Written, chamber: u32, start: u32, own: &mut [u8]) -> Written
     ensures { λ r. ⌜ Comes (asLength «so_far») (answerPut (Answer.Yes chamber start)) (now (own .entry)) (asLength r) (now (own .exit)) ⌝ }
     ensures { λ r. ⌜ bytesOfAll (answerPut (Answer.Yes chamber start)) ≤ answerRoom ⌝ }

@@ -54,11 +54,11 @@ passed-on answer buffer outcome answered kept number refused =
 pub always : (true ≡ true) ↔ (Unit {0})
 always = (λ holds. tt, λ may. refl)
 
--- A text that is to be written where a test holds, and refused by 4 where it does not; the test means that the text may be written.
-module _ (met : Bool) (MayBe : Type 0) (means : (met ≡ true) ↔ MayBe) (text buffer : List ℕ) (written : Read (List ℕ))
+-- A text that is to be written where a test holds, and refused by 4 where it does not; the test means that its numbers are allowed.
+module _ (met : Bool) (Allowed : Type 0) (means : (met ≡ true) ↔ Allowed) (text buffer : List ℕ) (written : Read (List ℕ))
     (tested : written ≡ (check met 4 >> right text)) where
-  -- the test fails exactly when it may not
-  fails : (met ≡ false) ↔ (MayBe → ⊥)
+  -- the test fails exactly when they are not
+  fails : (met ≡ false) ↔ (Allowed → ⊥)
   fails = (λ failed may. never-both (means .1 may) failed, λ never. not-met (λ passed. never (means .0 passed)))
 
   -- one of the two refusals, and no other
@@ -95,7 +95,7 @@ module _ (met : Bool) (MayBe : Type 0) (means : (met ≡ true) ↔ MayBe) (text 
   -- the answer of a writer, and what its buffer holds
   pub writes :
       (answer : Written) (held : List ℕ) → asLength answer ≡ lengthOf (fitted buffer written) → held ≡ bufferAfter buffer (fitted buffer written)
-      → Writes MayBe text buffer answer held
+      → Writes Allowed text buffer answer held
   writes answer held answered kept =
       record {
         out-of-range = Iff·trans (refused-as answer answered 4) (Iff·trans (writing.refused-by-four met text buffer written tested) fails);
@@ -120,8 +120,8 @@ module _ (met : Bool) (MayBe : Type 0) (means : (met ≡ true) ↔ MayBe) (text 
           let facts = done count .0 e in
           rw (kept ∙ holds count e, facts .2) (rest-of-onto text buffer, length-of-onto text buffer (facts .1))
 
--- A field that is to be put where a test holds, and refused by 4 where it does not; the test means that the field may be written.
-module _ (met : Bool) (MayBe : Type 0) (means : (met ≡ true) ↔ MayBe) (field : List ℕ) (read : Read (List ℕ))
+-- A field that is to be put where a test holds, and refused by 4 where it does not; the test means that its number is allowed.
+module _ (met : Bool) (Allowed : Type 0) (means : (met ≡ true) ↔ Allowed) (field : List ℕ) (read : Read (List ℕ))
     (tested : read ≡ (check met 4 >> right field)) (so-far : Written) (stop : ℕ) (buffer : List ℕ) (answer : Written) (held : List ℕ)
     (answered : asLength answer ≡ placeAfter (asLength so-far) read stop buffer) (kept : held ≡ heldAfter (asLength so-far) read stop buffer) where
   -- what stands at the front then tells answer and buffer
@@ -134,7 +134,7 @@ module _ (met : Bool) (MayBe : Type 0) (means : (met ≡ true) ↔ MayBe) (field
       → frontAfter (asLength so-far) read stop buffer ≡ frontAfter (right at) outcome stop buffer
   going-on at outcome on is = rw (on, is)
 
-  pub put-behind : PutBehind so-far MayBe field stop buffer answer held
+  pub put-behind : PutBehind so-far Allowed field stop buffer answer held
   unfolding frontAfter onto
   put-behind =
       record {
@@ -149,7 +149,7 @@ module _ (met : Bool) (MayBe : Type 0) (means : (met ≡ true) ↔ MayBe) (field
       }
     where
       put-at :
-          (at : ℕ) → so-far ≡ Length at → MayBe → at + length field + 1 ≤ length buffer
+          (at : ℕ) → so-far ≡ Length at → Allowed → at + length field + 1 ≤ length buffer
           → (answer ≡ Length (at + length field + 1)) × (held ≡ take at buffer ++ field ++ stop ∷ drop (at + length field + 1) buffer)
       put-at at on may room =
           let space : at + length field < length buffer = omega arith in

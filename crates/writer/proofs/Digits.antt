@@ -1,6 +1,5 @@
 -- Laws of how many digits a number has, and of its last digits. Assumes nothing.
 use Prim.Native.Nat.{ℕ, zero, suc, _/_, _^_, _≤_, _<_}
-use mathlib.Core.Path.{refl}
 use mathlib.Core.List.{List}
 use lib.ListN.{length}
 use lib.Dec.{ltb}
@@ -8,7 +7,7 @@ use native.Mathlib.Omega.{arith}
 use borrow.Author.Tests.{ltb-true, ltb-false}
 use Rattle.ground.specs.Digits.{lastDigits, spelled}
 use Rattle.ground.proofs.Tests.{by-test}
-use Rattle.ground.proofs.Digits.{spelled-only, length-tenfold}
+use Rattle.ground.proofs.Digits.{spelled-some, length-tenfold}
 use Rattle.writer.specs.Meaning.{EndsIn, none, more}
 
 -- a number of at most so many digits is below that power of ten
@@ -19,7 +18,7 @@ ten-power (suc count) = omega (arith, ten-power count)
 pub spelled-below : (count number : ℕ) → length (spelled number) ≤ suc count → number < 10 ^ suc count
 spelled-below zero number few =
     by-test (ltb number 10) (λ small. ltb-true _ _ small)
-    (λ large. absurd (omega (arith, length-tenfold number (ltb-false _ _ large), spelled-only (number / 10) (spelled (number / 10)) .0 refl .some)))
+    (λ large. absurd (omega (arith, length-tenfold number (ltb-false _ _ large), spelled-some (number / 10))))
 spelled-below (suc count) number few =
     by-test (ltb number 10)
     (λ small.

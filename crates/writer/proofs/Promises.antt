@@ -1,6 +1,6 @@
--- What this room promises, of the answers themselves and of the definitions that its contracts cite, at the comma. Each is a line over a law of this folder.
--- Assumes nothing.
-use Prim.Native.Nat.{ℕ, suc, _+_, _^_, _≤_, _<_}
+-- What this room promises, of the answers themselves and of the definitions that its contracts cite, at the comma.
+-- Each is a line over a law of this folder. Assumes nothing.
+use Prim.Native.Nat.{ℕ, suc, _^_, _≤_, _<_}
 use mathlib.Core.Path.{_≡_, refl, sym, ap, _∙_}
 use mathlib.Core.Bool.{true}
 use mathlib.Core.List.{List, [], _∷_}
@@ -12,14 +12,15 @@ use borrow.Author.Tests.{leb-true, le-leb, lt-leb}
 use contract.Lifetimes.{Lfts}
 use denote.Ref.{now}
 use Rattle.ground.specs.Refusal.{Read, wrong, right}
-use Rattle.ground.specs.Digits.{spelled, lastDigits}
+use Rattle.ground.specs.Digits.{spelled}
 use Rattle.ground.specs.Buffer.{fitted, lengthOf, bufferAfter}
 use Rattle.ground.specs.Outcome.{Injective, Single}
-use Rattle.ground.proofs.Digits.{spelled-most, length-last-digits}
+use Rattle.ground.proofs.Digits.{spelled-some, spelled-most, length-last-digits}
 use Rattle.ground.proofs.Outcome.{single-value}
 use Rattle.hours.specs.Reading.{hourOf}
+use Rattle.fields.specs.Meaning.{allClean, Splits}
 use Rattle.writer.specs.Writing.{hourText, hourWritten, asLength, textIn, frontOf}
-use Rattle.writer.specs.Line.{frontAfter, fieldsAfter, lineWith, lineOf, lineIn, bytesOfAll}
+use Rattle.writer.specs.Line.{fieldsAfter, lineWith, lineOf, lineIn, bytesOfAll}
 use Rattle.writer.specs.Meaning.{HourText, EndsIn, Writes, PutBehind}
 use Rattle.writer.specs.declared.Written.{Written}
 use Rattle.writer.specs.declared.Written.the-variants.{Length, Refused}
@@ -46,14 +47,12 @@ refusal-answered number = refl
 pub length-told : Injective asLength
 length-told = answers.length-told
 
--- a number has at most so many digits exactly when it is below that power of ten
+-- a number has a digit at least, and at most so many exactly when it is below that power of ten
 pub digit-count-means :
     (κs : Lfts 0) (number count : ℕ) (after : _) → digit-count.Learnt κs (number, tt) count after
-    → (most : ℕ) → (count ≤ suc most) ↔ (number < 10 ^ suc most)
-digit-count-means κs number count after learnt most = (
-  λ few. spelled-below most number (rw learnt at few),
-  λ below. rw learnt (spelled-most most number below),
-)
+    → (1 ≤ count) × ((most : ℕ) → (count ≤ suc most) ↔ (number < 10 ^ suc most))
+digit-count-means κs number count after learnt =
+    rw learnt (spelled-some number, λ most. (spelled-below most number, spelled-most most number))
 
 -- digits that are put are the last of the number, as many as the buffer has bytes
 pub put-digits-means :
@@ -70,8 +69,8 @@ hour-text = writing.hour-text
 in-hours : (hour : ℕ) → (leb hour 999_999 ≡ true) ↔ (hour ≤ 999_999)
 in-hours hour = (leb-true hour 999_999, le-leb hour 999_999)
 
--- 1b, 1c: an hour is refused by 4 exactly when it is above 999,999, whatever the room, then by 7 exactly when its text is longer than the buffer, and every byte
--- stays; in every other case its text stands at the front, every other byte stays, and its length is answered
+-- 1b, 1c: an hour is refused by 4 exactly when it is above 999,999, whatever the room, then by 7 exactly when its text is longer than the
+-- buffer, and every byte stays; in every other case its text stands at the front, every other byte stays, and its length is answered
 pub write-hour-writes :
     (κs : Lfts 1) (hour : ℕ) (buffer : _) (answer : Written) (after : _) → write-hour.Learnt κs (hour, (buffer, tt)) answer after
     → Writes (hour ≤ 999_999) (hourText 44 hour) (now buffer) answer (now (after .1 .0))
@@ -106,11 +105,16 @@ put-hour-puts κs so-far hour stop buffer answer after learnt =
     answers.put-behind (leb hour 999_999) (hour ≤ 999_999) (in-hours hour) (hourText 44 hour) (hourWritten 44 hour) (writing.tested 44 hour) so-far stop
     (now buffer) answer (now (after .1 .1 .1 .0)) (learnt .0) (learnt .1)
 
--- fields put one behind the other in a buffer with room for them are the line of these fields, or what the first of them that is refused is refused by
+-- fields put one behind the other in a buffer with room for them are the line of these fields,
+-- or what the first of them that is refused is refused by
 pub fields-put :
     (field : Read (List ℕ)) (fields : List (Read (List ℕ))) (buffer : List ℕ) → bytesOfAll (field ∷ fields) ≤ length buffer
     → lineIn (fieldsAfter (right 0) (field ∷ fields) buffer .0) (fieldsAfter (right 0) (field ∷ fields) buffer .1) ≡ lineOf (field ∷ fields)
 fields-put field fields buffer room = line.line-put (right tt) field fields buffer room (record { place = refl; holds = refl })
+
+-- and such a line splits into just these fields, where none has a tab or a line end in it
+pub line-splits : (field : List ℕ) (fields : List (List ℕ)) → allClean (field ∷ fields) ≡ true → Splits (lineWith (field ∷ fields)) (field ∷ fields)
+line-splits field fields clean = record { some = omega arith; clean = clean; joined = refl }
 
 -- a line that was refused stays refused; 7 where its own buffer is shorter than was answered; else it is written whole or not at all
 module _ (κs : Lfts 2) (put : Written) (own buffer : _) (answer : Written) (after : _) (learnt : write-line.Learnt κs (put, (own, (buffer, tt))) answer after) where

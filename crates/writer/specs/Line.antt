@@ -1,4 +1,5 @@
--- One way of writing a line: field behind field in a buffer of its own, each with the byte that stops it, and then whole or not at all. Assumes nothing.
+-- One way of writing a line: field behind field in a buffer of its own, each with the byte that stops it, and then whole or not at all.
+-- Assumes nothing.
 use Prim.Native.Nat.{ℕ, _+_}
 use mathlib.Core.Path.{_≡_}
 use mathlib.Core.List.{List, [], _∷_, _++_}
@@ -15,7 +16,7 @@ abbrev pub lineRoom : ℕ
 lineRoom = 48
 
 -- what stands at the front of a buffer once a field and the byte that stops it are put behind so many bytes of it:
--- "Each refusal returns its number", so a line that was refused stays refused, then what the field is refused by, then 7 where both have no room
+-- "Each refusal returns its number", so a line that was refused stays refused; then what the field is refused by; then 7 where there is no room
 unfoldable pub frontAfter : Read ℕ → Read (List ℕ) → ℕ → List ℕ → Read (List ℕ)
 frontAfter so-far field stop buffer = do
   at ← so-far
@@ -30,7 +31,7 @@ placeAfter so-far field stop buffer = lengthOf (frontAfter so-far field stop buf
 abbrev pub heldAfter : Read ℕ → Read (List ℕ) → ℕ → List ℕ → List ℕ
 heldAfter so-far field stop buffer = bufferAfter buffer (frontAfter so-far field stop buffer)
 
--- fields put one behind the other, a tab behind each and the line end behind the last: the place behind them, and what the buffer holds then
+-- fields put one behind the other, a tab behind each and the line end behind the last: the place behind them, and the buffer then
 unfoldable pub fieldsAfter : Read ℕ → List (Read (List ℕ)) → List ℕ → Read ℕ × List ℕ
 fieldsAfter so-far [] buffer = (so-far, buffer)
 fieldsAfter so-far (field ∷ []) buffer = (placeAfter so-far field lineEnd buffer, heldAfter so-far field lineEnd buffer)

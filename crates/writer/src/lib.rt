@@ -108,7 +108,8 @@ fn copy(text: &[u8], buffer: &mut [u8])
     }
 }
 
-// Puts a word and the byte that stops it behind a line so far: refusal 7 where they have no room. A line that was refused stays refused.
+// Puts a word and the byte that stops it behind a line so far: refusal 7 where they have no room.
+// A line that was refused stays refused.
 pub fn put_word(so_far: Written, word: &[u8], stop: u8, buffer: &mut [u8]) -> Written
     ensures { λ r. ⌜ asLength r ≡ placeAfter (asLength «so_far») (right (now (word .entry))) stop (now (buffer .entry)) ⌝ }
     ensures { λ r. ⌜ now (buffer .exit) ≡ heldAfter (asLength «so_far») (right (now (word .entry))) stop (now (buffer .entry)) ⌝ }
@@ -127,7 +128,8 @@ pub fn put_word(so_far: Written, word: &[u8], stop: u8, buffer: &mut [u8]) -> Wr
     Written::Refused(7)
 }
 
-// Puts a number's digits and the byte that stops them behind a line so far: refusal 7 where they have no room. A line that was refused stays refused.
+// Puts a number's digits and the byte that stops them behind a line so far: refusal 7 where they have no room.
+// A line that was refused stays refused.
 pub fn put_number(so_far: Written, number: u32, stop: u8, buffer: &mut [u8]) -> Written
     ensures { λ r. ⌜ asLength r ≡ placeAfter (asLength «so_far») (right (spelled number)) stop (now (buffer .entry)) ⌝ }
     ensures { λ r. ⌜ now (buffer .exit) ≡ heldAfter (asLength «so_far») (right (spelled number)) stop (now (buffer .entry)) ⌝ }
