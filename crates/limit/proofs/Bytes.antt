@@ -10,10 +10,14 @@ use Rattle.ground.proofs.Refusal.{same-right}
 use Rattle.texts.specs.Lines.{linesOf, lineAt}
 use Rattle.lines.proofs.Promises.{heading-ranges}
 use Rattle.book.specs.declared.Book.{Book}
-use Rattle.orders.specs.Answers.{CleanList, orderLines, answersFrom, yeses, bookFor}
+use Rattle.lines.specs.declared.Heading.{Heading}
+use Rattle.lines.specs.declared.Order.{Order}
+use Rattle.orders.specs.Answers.{orderLines, answersFrom, yeses, bookFor}
+use Rattle.orders.specs.Meaning.{CleanList}
+use Rattle.orders.proofs.Promises.{clean-exactly}
 use Rattle.plans.specs.Judging.{judged}
 use Rattle.plans.specs.Meaning.{Obeys}
-use Rattle.plans.proofs.Promises.{right-exactly, clean-as-the-desk}
+use Rattle.plans.proofs.Promises.{right-exactly}
 use Rattle.bound.specs.Plans.{keptOf}
 use Rattle.bound.proofs.Limit.{limit}
 use Rattle.limit.proofs.Numbers.{asOrder, asPlanLoad, lengthsOf}
@@ -32,10 +36,6 @@ module _ (list plan : List ℕ) (obeys : Obeys list plan) where
   abbrev listBook : Book
   listBook = bookFor (obeys .heading)
 
-  -- a list that a plan obeys is clean for the desk
-  clean-list : CleanList list listBook
-  clean-list = clean-as-the-desk list listBook .1 (obeys .heading, obeys .orders, obeys .clean, refl)
-
   -- a plan has a load for each of its lines
   loads-counted : length (linesOf plan) ≡ length (map asPlanLoad (obeys .loads))
   loads-counted = simp length-map (simp length-map at (ap length (obeys .good .read)))
@@ -44,7 +44,7 @@ module _ (list plan : List ℕ) (obeys : Obeys list plan) where
   yeses-counted : yeses (answersFrom listBook (orderLines list)) ≡ keptOf (lengthsOf listBook) (replicate (listBook .chambers) 0) (map asOrder (obeys .orders))
   yeses-counted =
       let few = heading-ranges (lineAt list 0) (obeys .heading) (obeys .clean .headed) .1 in
-      yeses-are-kept listBook (orderLines list) (obeys .orders) (obeys .clean .ordered .read) (clean-list .unrefused)
+      yeses-are-kept listBook (orderLines list) (obeys .orders) (obeys .clean .ordered .read) (clean-exactly list (obeys .heading) .1 (obeys .orders, obeys .clean) .1)
       ∙ ap (λ free. keptOf (lengthsOf listBook) free (map asOrder (obeys .orders))) (take-replicate (listBook .chambers) mostChambers 0 few)
 
   -- the limit, for the book of the plan's own list
@@ -56,11 +56,11 @@ module _ (list plan : List ℕ) (obeys : Obeys list plan) where
       (limit (listBook .chambers) (lengthsOf listBook) (map asOrder (obeys .orders)) (map asPlanLoad (obeys .loads))
       (in-turn (obeys .orders) (obeys .clean .ordered .in-turn)) (good-plan (obeys .heading) (obeys .orders) (linesOf plan) (obeys .loads) (obeys .good)))
 
--- the limit, for every list of which the desk refuses no line and every plan that the checker judges right
+-- the limit, for every clean list and every plan that the checker judges right
 pub limit-on-bytes :
-    (list plan : List ℕ) (book : Book) (m A Z : ℕ) → CleanList list book → book .chambers ≡ m → yeses (answersFrom book (orderLines list)) ≡ A
-    → judged list plan ≡ right Z → ((m + 1) ^ m - m ^ m) * Z ≤ (m + 1) ^ m * A
-limit-on-bytes list plan book m A Z clean chambers yeses judgement =
+    (list plan : List ℕ) (heading : Heading) (orders : List Order) (m A Z : ℕ) → CleanList list heading orders → heading .chambers ≡ m
+    → yeses (answersFrom (bookFor heading) (orderLines list)) ≡ A → judged list plan ≡ right Z → ((m + 1) ^ m - m ^ m) * Z ≤ (m + 1) ^ m * A
+limit-on-bytes list plan heading orders m A Z clean chambers yeses judgement =
     let obeys = right-exactly list plan Z .0 judgement in
-    let same : book ≡ listBook list plan (obeys .0) = same-right (sym (clean .begun) ∙ clean-list list plan (obeys .0) .begun) in
+    let same : heading ≡ obeys .0 .heading = same-right (sym (clean .headed) ∙ obeys .0 .clean .headed) in
     rw (obeys .1, ← chambers, ← yeses, same) (obeying-limit list plan (obeys .0))

@@ -9,8 +9,9 @@ use Rattle.lines.specs.declared.Heading.{Heading}
 use Rattle.lines.specs.declared.Order.{Order}
 use Rattle.lines.specs.declared.Load.{Load}
 use Rattle.lines.proofs.Promises.{load-ranges}
-use Rattle.plans.specs.Meaning.{Each, InTime, holdOf, Apart, GoodLoads}
-use Rattle.plans.proofs.Each.{each-first, each-rest, two-first, two-rest}
+use Rattle.orders.specs.Meaning.{Each}
+use Rattle.plans.specs.Meaning.{InTime, holdOf, Apart, GoodLoads}
+use Rattle.orders.proofs.Each.{each-first, each-rest, two-first, two-rest}
 use Rattle.bound.specs.Plans.{KeepsTo, ApartFrom, GoodPlan}
 use Rattle.bound.specs.Plans as bound
 use Rattle.limit.proofs.Numbers.{asOrder, asPlanLoad, lengthsOf}

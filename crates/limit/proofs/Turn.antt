@@ -3,8 +3,8 @@ use Prim.Native.Nat.{ℕ, _≤_}
 use mathlib.Core.List.{List, [], _∷_, map}
 use native.Mathlib.Omega.{arith}
 use Rattle.lines.specs.declared.Order.{Order}
-use Rattle.plans.specs.Meaning.{Each, EachTwo}
-use Rattle.plans.proofs.Each.{each-first, two-first, two-rest}
+use Rattle.orders.specs.Meaning.{Each, EachTwo}
+use Rattle.orders.proofs.Each.{each-first, two-first, two-rest}
 use Rattle.bound.specs.Plans.{InTurn}
 use Rattle.limit.proofs.Numbers.{asOrder}
 

@@ -22,8 +22,9 @@ use Rattle.book.specs.declared.Answer.{Answer}
 use Rattle.book.specs.declared.Answer.the-variants.{Yes, No, Refused}
 use Rattle.book.proofs.Steps.{next-sized, yes-exactly}
 use Rattle.orders.specs.Answers.{answersFrom}
-use Rattle.plans.specs.Meaning.{Each, EachTwo, Apart}
-use Rattle.plans.proofs.Each.{each-none, each-before, each-so, two-none, two-before}
+use Rattle.orders.specs.Meaning.{Each, EachTwo}
+use Rattle.plans.specs.Meaning.{Apart}
+use Rattle.orders.proofs.Each.{each-none, each-before, each-so, two-none, two-before}
 
 -- the load of a yes, with the number of its order's line; a no and a refusal have none
 abbrev pub yesLoad : ℕ → Answer → List Load

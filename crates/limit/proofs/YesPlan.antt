@@ -13,12 +13,12 @@ use Rattle.lines.specs.declared.Load.{Load}
 use Rattle.lines.proofs.Promises.{heading-ranges}
 use Rattle.book.specs.declared.Book.{Book}
 use Rattle.book.specs.declared.Answer.{Answer}
-use Rattle.orders.specs.Answers.{orderLines, answersFrom, yeses, yesPlan, CleanList, bookFor}
+use Rattle.orders.specs.Answers.{orderLines, answersFrom, yeses, yesPlan, bookFor}
+use Rattle.orders.specs.Meaning.{Each, CleanList}
+use Rattle.orders.proofs.Each.{each-so}
 use Rattle.plans.specs.Judging.{judged}
-use Rattle.plans.specs.Meaning as checker
-use Rattle.plans.specs.Meaning.{Each, InTime, Obeys}
-use Rattle.plans.proofs.Each.{each-so}
-use Rattle.plans.proofs.Promises.{right-exactly, clean-as-the-desk}
+use Rattle.plans.specs.Meaning.{InTime, Obeys}
+use Rattle.plans.proofs.Promises.{right-exactly}
 use Rattle.limit.proofs.YesLoads.{yesLoads, Given, GivenLoads, yeses-given}
 use Rattle.limit.proofs.YesText.{loadText, plan-joined, loads-counted, load-lines, Writable, loads-read, loads-short}
 
@@ -49,7 +49,7 @@ given-writable most few load given =
     }
 
 -- A clean list.
-module _ (list : List ℕ) (heading : Heading) (orders : List Order) (clean : checker.CleanList list heading orders) where
+module _ (list : List ℕ) (heading : Heading) (orders : List Order) (clean : CleanList list heading orders) where
   -- the book that it begins with
   abbrev book : Book
   book = bookFor heading
@@ -79,8 +79,8 @@ module _ (list : List ℕ) (heading : Heading) (orders : List Order) (clean : ch
   plan-counted : yeses answers ≡ length (linesOf (yesPlan firstOrderLine answers))
   plan-counted = rw (plan-lines, length-map loads loadText) (sym (loads-counted firstOrderLine answers))
 
-  -- it is not too long
-  plan-fits : length (yesPlan firstOrderLine answers) ≤ longestText
+  -- that text is at most 65,536 bytes
+  pub plan-fits : length (yesPlan firstOrderLine answers) ≤ longestText
   plan-fits = rw (plan-joined firstOrderLine answers) (omega (arith, loads-short loads loads-writable, loads-given .few, clean .ordered .few))
 
   -- and it obeys the list
@@ -97,14 +97,6 @@ module _ (list : List ℕ) (heading : Heading) (orders : List Order) (clean : ch
             (record { read = loads-read loads loads-writable; in-time = each-so given-in-time (loads-given .each); apart = loads-given .apart });
       }
 
--- 3a: the yeses of a list of which the desk refuses no line, written as plan lines, are judged right with their number
-pub yeses-are-right :
-    (list : List ℕ) (book : Book) → CleanList list book
-    → judged list (yesPlan firstOrderLine (answersFrom book (orderLines list))) ≡ right (yeses (answersFrom book (orderLines list)))
-yeses-are-right list book clean =
-    let p = clean-as-the-desk list book .0 clean in
-    rw (p .3) (right-exactly list _ _ .1 (plan-obeys list (p .0) (p .1) (p .2), plan-counted list (p .0) (p .1) (p .2)))
-
--- and that text is at most 65,536 bytes
-pub yeses-fit : (list : List ℕ) (book : Book) → CleanList list book → length (yesPlan firstOrderLine (answersFrom book (orderLines list))) ≤ longestText
-yeses-fit list book clean = let p = clean-as-the-desk list book .0 clean in rw (p .3) (plan-fits list (p .0) (p .1) (p .2))
+  -- 3a: the yeses of a clean list, written as plan lines, are judged right with their number
+  pub yeses-are-right : judged list (yesPlan firstOrderLine answers) ≡ right (yeses answers)
+  yeses-are-right = right-exactly list (yesPlan firstOrderLine answers) (yeses answers) .1 (plan-obeys, plan-counted)

@@ -1,2 +1,3 @@
--- What the contracts of this room cite.
+-- What the contracts of this room cite, and what they are proved to mean.
 pub mod Checks
+pub mod Meaning

@@ -6,7 +6,7 @@ ghost use lib.ListN.{getD};
 ghost use Rattle.ground.specs.Refusal.{numberOf};
 ghost use Rattle.ground.specs.Range.{within};
 ghost use Rattle.ground.specs.Limits.{firstOrderLine};
-ghost use Rattle.loads.specs.Checks.{loadMarked, overlap};
+ghost use Rattle.loads.specs.Checks.{loadMarked, overlap, loadFrom};
 use ground::FIRST_ORDER_LINE;
 use ground::check;
 use lines::Load;
@@ -58,7 +58,7 @@ pub fn load_refusal(load: Load, run: u32, readies: &[u32], dues: &[u32], lines: 
 
 // Whether two loads overlap: they stand in one chamber, and each starts before the other ends.
 pub fn overlap(hold: u32, chamber: u32, start: u32, other: u32, begins: u32) -> bool
-    ensures { λ r. ⌜ r ≡ overlap hold chamber start other begins ⌝ }
+    ensures { λ r. ⌜ r ≡ overlap hold (loadFrom chamber start) (loadFrom other begins) ⌝ }
 {
     if chamber != other {
         return false;

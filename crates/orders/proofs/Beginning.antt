@@ -19,7 +19,7 @@ use Rattle.lines.proofs.Promises.{heading-fault, heading-ranges, line-fault-fro
 use Rattle.book.specs.Soundness.{freshBook, opened}
 use Rattle.book.specs.declared.Book.{Book}
 use Rattle.book.proofs.Promises.{opened-fresh}
-use Rattle.orders.specs.Answers.{bookFor, opening, refusedLine}
+use Rattle.orders.specs.Answers.{bookFor, opening, refusedLine, begunWith, begunBy}
 
 -- a book that is not opened has every field 0
 pub unopened : opened 0 0 .book ≡ freshBook 0 0
@@ -113,3 +113,23 @@ module _ (text : List ℕ) where
         (λ outside. absurd (other (same-wrong (sym refused ∙ too-long (leb-false (length text) longestText outside))))),
     λ facts. heading-wrong (facts .0) number (heading-fault (lineAt text 0) number .1 (facts .1)),
   )
+
+  -- a list that begins is refused by none, and one that does not is refused by its number
+  pub begun-wrong : (begunBy text (opening text) .refusal ≡ 0 → ⊥) → opening text ≡ wrong (begunBy text (opening text) .refusal)
+  begun-wrong some = go (opening text) some
+    where
+      go : (read : Read Book) → (begunBy text read .refusal ≡ 0 → ⊥) → read ≡ wrong (begunBy text read .refusal)
+      go (wrong number) some = refl
+      go (right book) some = absurd (some refl)
+
+  -- which is never 0
+  pub begun-right : begunBy text (opening text) .refusal ≡ 0 → (book : Book) × (opening text ≡ right book) × (begunBy text (opening text) ≡ begunWith text book)
+  begun-right none = go (opening text) refl none
+    where
+      go :
+          (read : Read Book) → opening text ≡ read → begunBy text read .refusal ≡ 0
+          → (book : Book) × (opening text ≡ right book) × (begunBy text read ≡ begunWith text book)
+      go (wrong number) refused none =
+          let fault = refused-by-its-first-line number (λ nine. omega (arith, nine, none)) .0 refused .1 in
+          absurd (omega (arith, none, line-fault-from fault .0))
+      go (right book) begun none = (book, begun, refl)

@@ -1,4 +1,5 @@
 -- The laws of this room, by what they are about.
+pub mod Each
 pub mod Beginning
 pub mod Places
 pub mod Counting
@@ -7,4 +8,5 @@ pub mod Opening
 pub mod Steps
 pub mod Answering
 pub mod Tallies
+pub mod Clean
 pub mod Promises

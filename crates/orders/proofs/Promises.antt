@@ -19,7 +19,7 @@ use Rattle.lines.specs.Reading.{lineOf, headingOf, orderOf}
 use Rattle.lines.specs.Meaning.{HeadingFault, OrderFault}
 use Rattle.lines.specs.declared.Heading.{Heading}
 use Rattle.lines.specs.declared.Order.{Order}
-use Rattle.lines.proofs.Promises.{order-fault}
+use Rattle.lines.proofs.Promises.{order-fault, line-fault-from}
 use Rattle.planlines.specs.Writing.{planText}
 use Rattle.book.specs.Taking.{decided, told, answerOf}
 use Rattle.book.specs.declared.Book.{Book}
@@ -28,12 +28,11 @@ use Rattle.book.specs.declared.Answer.{Answer}
 use Rattle.book.specs.declared.Answer.the-variants.{Yes, No, Refused}
 use Rattle.book.proofs.Promises.{answer-told}
 use Rattle.book.proofs.Book.take.Reads as take
-use Rattle.orders.specs.Answers.{opening, orderLines, answersFrom, bookAfter, decision, bookPast, refusals, yeses, yesPlan, begunBy, progressPast}
+use Rattle.orders.specs.Answers.{bookFor, opening, orderLines, answersFrom, bookAfter, decision, bookPast, refusals, yeses, yesPlan, begunBy, progressPast}
 use Rattle.orders.specs.History.{FirstOf, of-lines, newBook, Answers, Counts}
 use Rattle.orders.specs.declared.Begun.{Begun}
 use Rattle.orders.specs.declared.Progress.{Progress}
 use Rattle.orders.specs.declared.Step.{Step}
-use Rattle.lines.proofs.Promises.{line-fault-from}
 use Rattle.orders.proofs.Places as places
 use Rattle.orders.proofs.Counting as counting
 use Rattle.orders.proofs.FirstLines as first-lines
@@ -43,6 +42,8 @@ use Rattle.orders.proofs.Answering as answering
 use Rattle.orders.proofs.Tallies as tallies
 use Rattle.orders.proofs.begin.Reads as begin
 use Rattle.orders.proofs.next.Reads as next
+use Rattle.orders.specs.Meaning.{CleanOrders, CleanList, OrderWrong}
+use Rattle.orders.proofs.Clean as clean
 
 -- a line reads as an order; what that means is promised where lines are read
 abbrev ReadsAs : List ℕ → Order → Type 0
@@ -288,6 +289,19 @@ module _ (line : ℕ) where
     pub plan-of-refused : (number : ℕ) → yesPlan line (Refused number ∷ answers) ≡ yesPlan (line + 1) answers
     unfolding yesPlan
     plan-of-refused number = rw add-one
+
+-- a list is clean exactly when it begins and the desk refuses none of its lines
+pub clean-exactly :
+    (list : List ℕ) (heading : Heading)
+    → ((opening list ≡ right (bookFor heading)) × (refusals (answersFrom (bookFor heading) (orderLines list)) ≡ 0))
+    ↔ ((orders : List Order) × CleanList list heading orders)
+clean-exactly = clean.clean-exactly
+
+-- 1b: behind the first line and clean order lines, an order line is refused exactly by its first fault: its own, 6, or 5
+pub refused-by-its-fault :
+    (line : List ℕ) (heading : Heading) → headingOf line ≡ right heading → (lines : List (List ℕ)) (orders : List Order) → CleanOrders lines orders
+    → (next : List ℕ) (number : ℕ) → (decision (bookAfter (bookFor heading) lines) (orderOf next) ≡ wrong number) ↔ OrderWrong orders next number
+refused-by-its-fault = clean.behind-clean
 
 -- while a line is left the place moves on, so that going through ends
 pub moves-on : (text : List ℕ) (progress : Progress) → progress .at < length text → progress .at < progressPast text progress .at

@@ -1,4 +1,5 @@
--- What a list is answered, line by line: "The desk program reads an order list … a line for each line after the first … Refused lines change nothing and it goes on." Assumes nothing.
+-- What a list is answered, line by line: "The desk program reads an order list … a line for each line after the first … Refused lines
+-- change nothing and it goes on." Assumes nothing.
 use Prim.Native.Nat.{ℕ, suc, _+_, min}
 use mathlib.Core.Path.{_≡_}
 use mathlib.Core.Bool.{cond}
@@ -26,7 +27,8 @@ use Rattle.orders.specs.declared.Step.{Step}
 abbrev pub bookFor : Heading → Book
 bookFor heading = freshBook (heading .chambers) (heading .run)
 
--- a list begins: 9 for "longer than 65,536 bytes", then what is wrong with its first line, else a fresh book; an empty text has an empty first line, which is refused by 1
+-- a list begins: 9 for "longer than 65,536 bytes", then what is wrong with its first line, else a fresh book; an empty text has an empty
+-- first line, which is refused by 1
 unfoldable pub opening : List ℕ → Read Book
 opening text = do
   check (leb (length text) longestText) 9
@@ -76,11 +78,6 @@ yesesIn (Refused number) = 0
 unfoldable pub yeses : List Answer → ℕ
 yeses [] = 0
 yeses (answer ∷ answers) = yesesIn answer + yeses answers
-
--- a list with no refused line, and the book that it begins with
-pub record CleanList (text : List ℕ) (book : Book) : Type 0 where
-  pub begun : opening text ≡ right book
-  pub unrefused : refusals (answersFrom book (orderLines text)) ≡ 0
 
 -- a yes as a plan line, with the number of its order's line; a no and a refusal have none
 abbrev pub planLineFor : ℕ → Answer → List ℕ

@@ -15,9 +15,10 @@ use Rattle.lines.specs.declared.Order.{Order}
 use Rattle.lines.specs.declared.Load.{Load}
 use Rattle.texts.proofs.Promises.{lines-joined, lines-are, lines-only}
 use Rattle.plans.specs.Judging.{judged, shown}
-use Rattle.plans.specs.Meaning.{CleanList, GoodLoads, FirstFault, list-long, plan-long, in-heading, in-list, in-plan}
+use Rattle.orders.specs.Meaning.{CleanList}
+use Rattle.orders.proofs.Each.{never-among}
+use Rattle.plans.specs.Meaning.{GoodLoads, RightBefore, FirstFault, list-long, plan-long, in-heading, in-list, in-plan}
 use Rattle.plans.specs.declared.Fault.{Fault}
-use Rattle.plans.proofs.Each.{never-among}
 use Rattle.plans.proofs.Judged.{joined-cut, right-exactly, fault-exactly}
 
 -- the lines before a line of a text are lines by themselves
@@ -29,14 +30,6 @@ lines-before (first ∷ front) line rest none e = absurd (nil≢cons e)
 lines-before (first ∷ front) line rest (unended text some unbroken) e = absurd (never-among front line rest (tail-eq-of-cons-eq e))
 lines-before (first ∷ front) line rest (more body lines unbroken are) e =
     rw (sym (head-eq-of-cons-eq e)) (more body front unbroken (lines-before front line rest are (tail-eq-of-cons-eq e)))
-
--- a plan is a front that is right, then the line at fault, then the rest
-pub record RightBefore (list plan : List ℕ) (fault : Fault) (line : List ℕ) : Type 0 where
-  pub front : List ℕ
-  pub rest : List ℕ
-  pub whole : plan ≡ front ++ (line ++ rest)
-  pub before : judged list front ≡ right (fault .line - 1)
-  pub place : (fault .from ≡ length front) × (fault .to ≡ length front + length line)
 
 module _ (list plan : List ℕ) where
   -- the lines of a plan before one of them

@@ -3,14 +3,14 @@ use Prim.Native.Nat.{ℕ, _+_, _-_, _≤_, _<_}
 use mathlib.Core.Path.{_≡_, refl, sym, ap, subst, _∙_}
 use mathlib.Core.Bool.{true, false}
 use mathlib.Core.Logic.{_↔_, ⊎-elim}
-use mathlib.Core.List.{List, [], _∷_, _++_, map, append-assoc}
+use mathlib.Core.List.{List, [], _∷_, _++_, append-assoc}
 use lib.ListN.{length, length-append, length-map}
 use lib.Seq.{take-append-seam, drop-append-seam, length-take-le}
 use lib.Dec.{leb, ltb}
 use native.Mathlib.Omega.{arith}
 use borrow.Author.Tests.{leb-true, leb-false, le-leb, lt-leb, ltb-true, ltb-false}
 use Rattle.ground.specs.Refusal.{Or, Read, wrong, right, _>>=_}
-use Rattle.ground.specs.Limits.{longestText, firstOrderLine}
+use Rattle.ground.specs.Limits.{longestText}
 use Rattle.ground.proofs.Refusal.{never-right, same-right, same-wrong}
 use Rattle.ground.proofs.Tests.{by-test}
 use Rattle.texts.specs.Lines.{linesOf, lineLength, lineAt, pastLine, partOf}
@@ -22,13 +22,18 @@ use Rattle.lines.specs.declared.Load.{Load}
 use Rattle.texts.proofs.Lines.{line-within}
 use Rattle.texts.proofs.Promises.{lines-joined, walk-on, walk-done}
 use Rattle.lines.proofs.Promises.{heading-fault}
-use Rattle.orders.specs.Answers.{orderLines}
+use Rattle.lines.specs.Meaning.{HeadingFault}
+use Rattle.orders.specs.Answers.{bookFor, opening, orderLines}
+use Rattle.orders.specs.Meaning.{CleanList}
+use Rattle.orders.proofs.Each.{each-none, two-none}
+use Rattle.orders.proofs.Beginning.{heading-right, heading-wrong}
+use Rattle.orders.proofs.Clean.{begun-headed}
+use Rattle.orders.proofs.Beginning.{refused-by-nine, refused-by-its-first-line}
+use Rattle.orders.proofs.Promises.{refused-empty}
 use Rattle.plans.specs.Judging.{faultAt, listJudged, planJudged, loadsCounted, bothJudged, judged, shown}
-use Rattle.plans.specs.Meaning.{CleanList, GoodLoads, Obeys, FirstFault, list-long, plan-long, in-heading, in-list, in-plan}
+use Rattle.plans.specs.Meaning.{faultOf, GoodLoads, Obeys, FirstFault, list-long, plan-long, in-heading, in-list, in-plan}
 use Rattle.plans.specs.declared.Fault.{Fault}
-use Rattle.plans.proofs.Each.{each-none, two-none}
-use Rattle.plans.proofs.Through.{faultOf, both-right, one-wrong, past-line, at-or-past-line}
-use Rattle.plans.proofs.Loads.{knownOf}
+use Rattle.plans.proofs.Through.{both-right, one-wrong, past-line, at-or-past-line}
 use Rattle.plans.proofs.Obeying.{plan-right, PlanFault, plan-wrong}
 use Rattle.plans.proofs.Listing.{list-right, list-clean, ListFault, list-wrong}
 
@@ -42,7 +47,7 @@ as-many heading orders lines loads good =
 module _ (list plan : List ℕ) where
   -- what is left to look for once neither text is too long
   abbrev from-heading : Or Fault ℕ
-  from-heading = faultAt false 1 0 (pastLine list 0) (headingOf (lineAt list 0)) >>= λ heading. bothJudged list plan heading
+  from-heading = faultAt false 1 0 (pastLine list 0) (opening list) >>= λ book. bothJudged list plan book
 
   -- it is looked for then
   fit-then : length list ≤ longestText → length plan ≤ longestText → judged list plan ≡ from-heading
@@ -60,59 +65,46 @@ module _ (list plan : List ℕ) where
   plan-over list-fits over = rw (le-leb (length list) longestText list-fits, lt-leb (length plan) longestText over)
 
   -- the loads of a plan that has no fault are as many as its lines
-  module _ (heading : Heading) (orders : List Order) (readies dues : List ℕ)
-      (same-readies : readies ≡ map (λ order. order .ready) orders) (same-dues : dues ≡ map (λ order. order .due) orders) where
+  module _ (heading : Heading) (orders : List Order) where
     counted-right :
         (count : ℕ)
-        → (loadsCounted plan heading readies dues ≡ right count)
+        → (loadsCounted plan (bookFor heading) orders ≡ right count)
         ↔ ((loads : List Load) × GoodLoads heading orders (linesOf plan) loads × (count ≡ length (linesOf plan)))
     unfolding loadsCounted
-    counted-right count = rw (same-readies, same-dues) (
+    counted-right count = (
       λ e.
-          let p =
-          both-right (planJudged plan heading (map (λ order. order .ready) orders) (map (λ order. order .due) orders))
-          (λ loads. right (length (loads .orders))) count e in
-          let q = plan-right heading orders plan (p .0) .0 (p .1) in (
-            q .0,
-            q .1,
-            sym (same-right (p .2))
-                ∙ ap (λ known. length (known .orders)) (q .2)
-                ∙ length-map (q .0) (λ (load : Load). load .order)
-                ∙ sym (as-many heading orders (linesOf plan) (q .0) (q .1)),
-          ),
+          let p = both-right (planJudged plan (bookFor heading) orders) (λ loads. right (length loads)) count e in
+          let good = plan-right heading orders plan (p .0) .0 (p .1) in
+          (p .0, good, sym (same-right (p .2)) ∙ sym (as-many heading orders (linesOf plan) (p .0) good)),
       λ p.
-          rw (plan-right heading orders plan (knownOf (p .0)) .1 (p .0, p .1, refl))
-          (ap right (length-map (p .0) (λ (load : Load). load .order) ∙ sym (as-many heading orders (linesOf plan) (p .0) (p .1)) ∙ sym (p .2))),
+          rw (plan-right heading orders plan (p .0) .1 (p .1))
+          (ap right (sym (as-many heading orders (linesOf plan) (p .0) (p .1)) ∙ sym (p .2))),
     )
 
     -- a fault of the plan is the answer
     counted-wrong :
-        (fault : Fault)
-        → (loadsCounted plan heading readies dues ≡ wrong fault)
-        ↔ (planJudged plan heading (map (λ order. order .ready) orders) (map (λ order. order .due) orders) ≡ wrong fault)
+        (fault : Fault) → (loadsCounted plan (bookFor heading) orders ≡ wrong fault) ↔ (planJudged plan (bookFor heading) orders ≡ wrong fault)
     unfolding loadsCounted
-    counted-wrong fault = rw (same-readies, same-dues) (
+    counted-wrong fault = (
       λ e.
           ⊎-elim (λ first. first) (λ p. absurd (never-right (sym (p .2))))
-          (one-wrong (planJudged plan heading (map (λ order. order .ready) orders) (map (λ order. order .due) orders))
-          (λ loads. right (length (loads .orders))) fault e),
+          (one-wrong (planJudged plan (bookFor heading) orders) (λ loads. right (length loads)) fault e),
       λ e. rw e,
     )
 
   -- a list with a first line that reads, and a plan, that are right with a number
   both-from :
       (count : ℕ) → length list ≤ longestText → length plan ≤ longestText → (heading : Heading) → headingOf (lineAt list 0) ≡ right heading
-      → bothJudged list plan heading ≡ right count → Obeys list plan × (count ≡ length (linesOf plan))
+      → bothJudged list plan (bookFor heading) ≡ right count → Obeys list plan × (count ≡ length (linesOf plan))
   unfolding bothJudged
   both-from count list-fits plan-fits heading headed e =
-      let p = both-right (listJudged list heading) (λ known. loadsCounted plan heading (known .readies) (known .dues)) count e in
-      let q = list-right list heading headed (p .0) (p .1) in
-      let r = counted-right heading (q .0) (p .0 .readies) (p .0 .dues) (q .2 .readies) (q .2 .dues) count .0 (p .2) in (
+      let p = both-right (listJudged list (bookFor heading)) (λ known. loadsCounted plan (bookFor heading) (known .orders)) count e in
+      let r = counted-right heading (p .0 .orders) count .0 (p .2) in (
         record {
           heading = heading;
-          orders = q .0;
+          orders = p .0 .orders;
           loads = r .0;
-          clean = record { fits = list-fits; headed = headed; ordered = q .1 };
+          clean = record { fits = list-fits; headed = headed; ordered = list-right list heading headed (p .0) (p .1) };
           fits = plan-fits;
           good = r .1;
         },
@@ -129,9 +121,9 @@ module _ (list plan : List ℕ) where
       let list-fits = leb-true (length list) longestText one in
       let plan-fits = leb-true (length plan) longestText other in
       let p =
-      past-line false 1 0 (pastLine list 0) (headingOf (lineAt list 0)) (λ heading. bothJudged list plan heading) count
-      (sym (fit-then list-fits plan-fits) ∙ e) in
-      both-from count list-fits plan-fits (p .0) (p .1) (p .2))
+      past-line false 1 0 (pastLine list 0) (opening list) (λ book. bothJudged list plan book) count (sym (fit-then list-fits plan-fits) ∙ e) in
+      let begun = begun-headed list (p .0) (p .1) in
+      both-from count list-fits plan-fits (begun .0) (begun .1) (rw (begun .2) at (p .2)))
       (λ over. absurd (never-right (sym (plan-over (leb-true (length list) longestText one) (leb-false (length plan) longestText over)) ∙ e))))
       (λ over. absurd (never-right (sym (list-over (leb-false (length list) longestText over)) ∙ e)))
 
@@ -142,9 +134,8 @@ module _ (list plan : List ℕ) where
       let clean = obeys .clean in
       let known = list-clean list (obeys .heading) (clean .headed) (obeys .orders) (clean .ordered) in
       fit-then (clean .fits) (obeys .fits)
-      ∙ rw (clean .headed, known .1)
-      (counted-right (obeys .heading) (obeys .orders) (known .0 .readies) (known .0 .dues) (known .2 .readies) (known .2 .dues) (length (linesOf plan)) .1
-      (obeys .loads, obeys .good, refl))
+      ∙ rw (heading-right list (clean .fits) (obeys .heading) (clean .headed), known .1, known .2)
+      (counted-right (obeys .heading) (obeys .orders) (length (linesOf plan)) .1 (obeys .loads, obeys .good, refl))
 
   -- "With no fault the answer is right with the number of plan lines": exactly when the plan obeys the list, and by that number
   pub right-exactly : (count : ℕ) → (judged list plan ≡ right count) ↔ (Obeys list plan × (count ≡ length (linesOf plan)))
@@ -165,6 +156,12 @@ empty-plan list heading orders clean =
       },
       refl,
     )
+
+-- the fault of a first line, where the list does not begin and is not too long
+first-fault : (list : List ℕ) → length list ≤ longestText → (number : ℕ) → opening list ≡ wrong number → HeadingFault (lineAt list 0) number
+first-fault list fits number refused =
+    refused-by-its-first-line list number
+    (λ nine. let over = refused-by-nine list .0 (refused ∙ ap wrong nine) in omega (arith, fits, over)) .0 refused .1
 
 -- The first line of a list, and the others.
 -- it is as long as the place past it
@@ -241,7 +238,7 @@ module _ (list plan : List ℕ) where
   -- a list with a first line that reads is at fault, or else the plan
   both-wrong-from :
       (fault : Fault) → length list ≤ longestText → length plan ≤ longestText → (heading : Heading) → headingOf (lineAt list 0) ≡ right heading
-      → bothJudged list plan heading ≡ wrong fault → (line : List ℕ) × FirstFault list plan fault line
+      → bothJudged list plan (bookFor heading) ≡ wrong fault → (line : List ℕ) × FirstFault list plan fault line
   unfolding bothJudged
   both-wrong-from fault list-fits plan-fits heading headed e =
       ⊎-elim
@@ -249,12 +246,12 @@ module _ (list plan : List ℕ) where
       let wrongly = list-wrong list heading headed fault .0 first in
       (wrongly .line, first-in-list fault heading headed list-fits plan-fits wrongly))
       (λ p.
-      let q = list-right list heading headed (p .0) (p .1) in
-      let wrongly =
-      plan-wrong heading (q .0) plan fault .0
-      (counted-wrong list plan heading (q .0) (p .0 .readies) (p .0 .dues) (q .2 .readies) (q .2 .dues) fault .0 (p .2)) in
-      (wrongly .line, first-in-plan fault heading (q .0) (record { fits = list-fits; headed = headed; ordered = q .1 }) plan-fits wrongly))
-      (one-wrong (listJudged list heading) (λ known. loadsCounted plan heading (known .readies) (known .dues)) fault e)
+      let orders = p .0 .orders in
+      let clean : CleanList list heading orders =
+      record { fits = list-fits; headed = headed; ordered = list-right list heading headed (p .0) (p .1) } in
+      let wrongly = plan-wrong heading orders plan fault .0 (counted-wrong list plan heading orders fault .0 (p .2)) in
+      (wrongly .line, first-in-plan fault heading orders clean plan-fits wrongly))
+      (one-wrong (listJudged list (bookFor heading)) (λ known. loadsCounted plan (bookFor heading) (known .orders)) fault e)
 
   -- what they are judged wrong by is the first fault
   wrong-from : (fault : Fault) → judged list plan ≡ wrong fault → (line : List ℕ) × FirstFault list plan fault line
@@ -268,9 +265,11 @@ module _ (list plan : List ℕ) where
       ⊎-elim
       (λ p. (
         lineAt list 0,
-        rw (p .2, first-length list) (in-heading list-fits plan-fits (heading-fault (lineAt list 0) (p .0) .0 (p .1))),
-      )) (λ p. both-wrong-from fault list-fits plan-fits (p .0) (p .1) (p .2))
-      (at-or-past-line false 1 0 (pastLine list 0) (headingOf (lineAt list 0)) (λ heading. bothJudged list plan heading) fault
+        rw (p .2, first-length list) (in-heading list-fits plan-fits (first-fault list list-fits (p .0) (p .1))),
+      ))
+      (λ p.
+      let begun = begun-headed list (p .0) (p .1) in both-wrong-from fault list-fits plan-fits (begun .0) (begun .1) (rw (begun .2) at (p .2)))
+      (at-or-past-line false 1 0 (pastLine list 0) (opening list) (λ book. bothJudged list plan book) fault
       (sym (fit-then list plan list-fits plan-fits) ∙ e)))
       (λ over.
       let long = leb-false (length plan) longestText over in
@@ -285,13 +284,14 @@ module _ (list plan : List ℕ) where
   wrong-to (list-long over) = list-over list plan over
   wrong-to (plan-long fits over) = plan-over list plan fits over
   wrong-to (in-heading {number = number} list-fits plan-fits wrongly) =
-      fit-then list plan list-fits plan-fits ∙ rw (heading-fault (lineAt list 0) number .1 wrongly, first-length list)
+      fit-then list plan list-fits plan-fits
+      ∙ rw (heading-wrong list list-fits number (heading-fault (lineAt list 0) number .1 wrongly), first-length list)
   wrong-to (in-list {number = number} heading front line rest orders list-fits plan-fits headed among clean wrongly) =
       fit-then list plan list-fits plan-fits
       ∙ rw (
-        headed,
+        heading-right list list-fits heading headed,
         list-wrong list heading headed
-            (faultOf number false (firstOrderLine + length front) (length (lineAt list 0) + length (joined front))
+            (faultOf number false (2 + length front) (length (lineAt list 0) + length (joined front))
             (length (lineAt list 0) + length (joined front) + length line)) .1
             (record {
               front = front;
@@ -307,11 +307,11 @@ module _ (list plan : List ℕ) where
       )
   wrong-to (in-plan {number = number} heading orders front line rest loads clean fits among good wrongly) =
       let known = list-clean list heading (clean .headed) orders (clean .ordered) in
+      let fault = faultOf number true (1 + length front) (length (joined front)) (length (joined front) + length line) in
       fit-then list plan (clean .fits) fits
-      ∙ rw (clean .headed, known .1)
-      (counted-wrong list plan heading orders (known .0 .readies) (known .0 .dues) (known .2 .readies) (known .2 .dues)
-      (faultOf number true (1 + length front) (length (joined front)) (length (joined front) + length line)) .1
-      (plan-wrong heading orders plan (faultOf number true (1 + length front) (length (joined front)) (length (joined front) + length line)) .1
+      ∙ rw (heading-right list (clean .fits) heading (clean .headed), known .1, known .2)
+      (counted-wrong list plan heading orders fault .1
+      (plan-wrong heading orders plan fault .1
       (record {
         front = front;
         line = line;
@@ -330,3 +330,9 @@ module _ (list plan : List ℕ) where
     λ e. let first = wrong-from fault e in rw (first-shown list plan (first .1)) (first .1),
     wrong-to,
   )
+
+-- "an empty list, which is 1": at line 1, with the empty front
+pub empty-list : (plan : List ℕ) → length plan ≤ longestText → judged [] plan ≡ wrong (faultOf 1 false 1 0 0)
+empty-list plan fits =
+    let past : pastLine [] 0 ≡ 0 = walk-done [] 0 (omega arith) .2 in
+    fit-then [] plan (omega arith) fits ∙ rw (refused-empty, past)

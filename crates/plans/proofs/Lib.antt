@@ -1,11 +1,12 @@
 -- The laws of this room, by what they are about.
+pub mod Any
 pub mod Going
 pub mod Pigeonhole
 pub mod Loading
 pub mod Orders
+pub mod Chains
 pub mod Planning
 pub mod Texts
-pub mod Each
 pub mod Through
 pub mod Loads
 pub mod Obeying
@@ -13,5 +14,4 @@ pub mod Listing
 pub mod Judged
 pub mod Faults
 pub mod Front
-pub mod Desk
 pub mod Promises

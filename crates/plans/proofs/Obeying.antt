@@ -1,6 +1,6 @@
 -- The loads of a plan: its lines are all noted exactly when they have no fault, and else it stops at the first that has one. Assumes nothing.
 use Prim.Native.Nat.{ℕ, _+_}
-use mathlib.Core.Path.{_≡_, refl, sym, ap, subst, _∙_}
+use mathlib.Core.Path.{_≡_, refl, sym, subst, _∙_}
 use mathlib.Core.Bool.{true}
 use mathlib.Core.Logic.{_↔_}
 use mathlib.Core.List.{List, [], _∷_, _++_, map, append-nil, append-assoc, nil≢cons, cons≢nil, head-eq-of-cons-eq, tail-eq-of-cons-eq}
@@ -13,17 +13,19 @@ use Rattle.texts.specs.Meaning.{joined}
 use Rattle.lines.specs.declared.Heading.{Heading}
 use Rattle.lines.specs.declared.Order.{Order}
 use Rattle.lines.specs.declared.Load.{Load}
-use Rattle.plans.specs.Judging.{PlanKnown, noteLoad, planJudged}
-use Rattle.plans.specs.Meaning.{Each, EachTwo, InTime, holdOf, Apart, GoodLoads, LoadWrong}
+use Rattle.plans.specs.Judging.{noteLoad, planJudged}
+use Rattle.orders.specs.Answers.{bookFor}
+use Rattle.orders.specs.Meaning.{Each, EachTwo}
+use Rattle.plans.specs.Meaning.{faultOf, InTime, holdOf, Apart, GoodLoads, LoadWrong}
 use Rattle.plans.specs.declared.Fault.{Fault}
-use Rattle.plans.proofs.Each.{each-none, each-before, each-first, each-rest, each-behind, each-last, each-front, two-none, two-before, two-first, two-rest}
-use Rattle.plans.proofs.Through.{faultOf, Reaches, through-right, through-wrong}
-use Rattle.plans.proofs.Loads.{knownOf, line-right, line-wrong}
+use Rattle.orders.proofs.Each.{each-none, each-before, each-first, each-rest, each-behind, each-last, each-front, two-none, two-before, two-first, two-rest}
+use Rattle.plans.proofs.Through.{Reaches, through-right, through-wrong}
+use Rattle.plans.proofs.Loads.{line-right, line-wrong}
 
 module _ (heading : Heading) (orders : List Order) where
   -- what is noted of a line
-  abbrev note : PlanKnown → List ℕ → Read PlanKnown
-  note = noteLoad heading (map (λ order. order .ready) orders) (map (λ order. order .due) orders)
+  abbrev note : List Load → List ℕ → Read (List Load)
+  note = noteLoad (bookFor heading) orders
 
   -- plan lines with no fault behind those of other loads
   record GoodBehind (seen : List Load) (lines : List (List ℕ)) (loads : List Load) : Type 0 where
@@ -69,28 +71,28 @@ module _ (heading : Heading) (orders : List Order) where
 
   -- lines that are all noted have no fault
   good-from :
-      (seen : List Load) (lines : List (List ℕ)) (last : PlanKnown) → Reaches note (knownOf seen) lines last
-      → (loads : List Load) × GoodBehind seen lines loads × (last ≡ knownOf (seen ++ loads))
-  good-from seen [] last e = ([], good-none seen, sym e ∙ ap knownOf (sym (append-nil seen)))
+      (seen : List Load) (lines : List (List ℕ)) (last : List Load) → Reaches note seen lines last
+      → (loads : List Load) × GoodBehind seen lines loads × (last ≡ seen ++ loads)
+  good-from seen [] last e = ([], good-none seen, sym e ∙ sym (append-nil seen))
   good-from seen (line ∷ lines) last p =
       let added = line-right heading orders seen line (p .0) .0 (p .1) in
       let load = added .load in
       let later = good-from (seen ++ load ∷ []) lines last (subst (λ known. Reaches note known lines last) (added .known) (p .2)) in (
         load ∷ later .0,
         good-more seen line lines load (later .0) (added .read) (added .in-time) (added .apart) (later .1),
-        later .2 ∙ ap knownOf (append-assoc seen (load ∷ []) (later .0)),
+        later .2 ∙ append-assoc seen (load ∷ []) (later .0),
       )
 
   -- and lines with no fault are all noted
   good-to :
       (seen : List Load) (lines : List (List ℕ)) (loads : List Load) → GoodBehind seen lines loads
-      → Reaches note (knownOf seen) lines (knownOf (seen ++ loads))
-  good-to seen [] [] good = ap knownOf (sym (append-nil seen))
+      → Reaches note seen lines (seen ++ loads)
+  good-to seen [] [] good = sym (append-nil seen)
   good-to seen [] (load ∷ loads) good = absurd (nil≢cons (good .read))
   good-to seen (line ∷ lines) [] good = absurd (cons≢nil (good .read))
   good-to seen (line ∷ lines) (load ∷ loads) good = (
-    knownOf (seen ++ load ∷ []),
-    line-right heading orders seen line (knownOf (seen ++ load ∷ [])) .1
+    seen ++ load ∷ [],
+    line-right heading orders seen line (seen ++ load ∷ []) .1
         (record {
           load = load;
           read = head-eq-of-cons-eq (good .read);
@@ -98,7 +100,7 @@ module _ (heading : Heading) (orders : List Order) where
           apart = each-first (good .behind);
           known = refl;
         }),
-    subst (λ all. Reaches note (knownOf (seen ++ load ∷ [])) lines (knownOf all)) (append-assoc seen (load ∷ []) loads)
+    subst (λ all. Reaches note (seen ++ load ∷ []) lines all) (append-assoc seen (load ∷ []) loads)
         (good-to (seen ++ load ∷ []) lines loads (good-rest seen line lines load loads good)),
   )
 
@@ -111,23 +113,19 @@ module _ (heading : Heading) (orders : List Order) where
   )
 
   -- lines are all noted from the top exactly when they have no fault
-  pub noted-exactly :
-      (lines : List (List ℕ)) (last : PlanKnown)
-      → Reaches note (knownOf []) lines last ↔ ((loads : List Load) × GoodLoads heading orders lines loads × (last ≡ knownOf loads))
-  noted-exactly lines last = (
-    λ reached. let p = good-from [] lines last reached in (p .0, good-exactly lines (p .0) .0 (p .1), p .2),
-    λ p. subst (λ known. Reaches note (knownOf []) lines known) (sym (p .2)) (good-to [] lines (p .0) (good-exactly lines (p .0) .1 (p .1))),
+  noted-exactly : (lines : List (List ℕ)) (loads : List Load) → Reaches note [] lines loads ↔ GoodLoads heading orders lines loads
+  noted-exactly lines loads = (
+    λ reached. let p = good-from [] lines loads reached in rw (p .2) (good-exactly lines (p .0) .0 (p .1)),
+    λ good. good-to [] lines loads (good-exactly lines loads .1 good),
   )
 
-  -- a plan comes to what is known of its loads exactly when none of its lines has a fault
+  -- a plan comes to its loads exactly when none of its lines has a fault
   pub plan-right :
-      (plan : List ℕ) (last : PlanKnown)
-      → (planJudged plan heading (map (λ order. order .ready) orders) (map (λ order. order .due) orders) ≡ right last)
-      ↔ ((loads : List Load) × GoodLoads heading orders (linesOf plan) loads × (last ≡ knownOf loads))
+      (plan : List ℕ) (loads : List Load) → (planJudged plan (bookFor heading) orders ≡ right loads) ↔ GoodLoads heading orders (linesOf plan) loads
   unfolding planJudged
-  plan-right plan last = (
-    λ e. noted-exactly (linesOf plan) last .0 (through-right note true 1 0 (knownOf []) (linesOf plan) last .0 e),
-    λ p. through-right note true 1 0 (knownOf []) (linesOf plan) last .1 (noted-exactly (linesOf plan) last .1 p),
+  plan-right plan loads = (
+    λ e. noted-exactly (linesOf plan) loads .0 (through-right note true 1 0 [] (linesOf plan) loads .0 e),
+    λ good. through-right note true 1 0 [] (linesOf plan) loads .1 (noted-exactly (linesOf plan) loads .1 good),
   )
 
   -- the first line of a plan at fault
@@ -143,36 +141,33 @@ module _ (heading : Heading) (orders : List Order) where
     pub told : fault ≡ faultOf number true (1 + length front) (length (joined front)) (length (joined front) + length line)
 
   -- and to a fault exactly when that is the fault of its first line that has one
-  pub plan-wrong :
-      (plan : List ℕ) (fault : Fault)
-      → (planJudged plan heading (map (λ order. order .ready) orders) (map (λ order. order .due) orders) ≡ wrong fault) ↔ PlanFault plan fault
+  pub plan-wrong : (plan : List ℕ) (fault : Fault) → (planJudged plan (bookFor heading) orders ≡ wrong fault) ↔ PlanFault plan fault
   unfolding planJudged
   plan-wrong plan fault = (
     λ e.
-        let stops = through-wrong note true 1 0 (knownOf []) (linesOf plan) fault .0 e in
-        let p = noted-exactly (stops .front) (stops .before) .0 (stops .reached) in
+        let stops = through-wrong note true 1 0 [] (linesOf plan) fault .0 e in
         let from : 0 + length (joined (stops .front)) ≡ length (joined (stops .front)) = omega arith in
         record {
           front = stops .front;
           line = stops .text;
           rest = stops .rest;
           among = stops .among;
-          loads = p .0;
-          good = p .1;
+          loads = stops .before;
+          good = noted-exactly (stops .front) (stops .before) .0 (stops .reached);
           number = stops .number;
-          at-fault = line-wrong heading orders (p .0) (stops .text) (stops .number) .0 (rw (p .2) at (stops .refused));
+          at-fault = line-wrong heading orders (stops .before) (stops .text) (stops .number) .0 (stops .refused);
           told = rw from at (stops .told);
         },
     λ wrongly.
         let from : 0 + length (joined (wrongly .front)) ≡ length (joined (wrongly .front)) = omega arith in
-        through-wrong note true 1 0 (knownOf []) (linesOf plan) fault .1
+        through-wrong note true 1 0 [] (linesOf plan) fault .1
         (record {
           front = wrongly .front;
           text = wrongly .line;
           rest = wrongly .rest;
           among = wrongly .among;
-          before = knownOf (wrongly .loads);
-          reached = noted-exactly (wrongly .front) (knownOf (wrongly .loads)) .1 (wrongly .loads, wrongly .good, refl);
+          before = wrongly .loads;
+          reached = noted-exactly (wrongly .front) (wrongly .loads) .1 (wrongly .good);
           number = wrongly .number;
           refused = line-wrong heading orders (wrongly .loads) (wrongly .line) (wrongly .number) .1 (wrongly .at-fault);
           told = rw from (wrongly .told);

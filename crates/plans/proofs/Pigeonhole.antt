@@ -10,7 +10,11 @@ use borrow.Author.Tests.{ltb-true, ltb-false, lt-ltb, le-ltb, eqb-true, eqb-fals
 use Rattle.ground.specs.Range.{within}
 use Rattle.ground.proofs.Range.{within-low, within-high}
 use Rattle.ground.proofs.Tests.{by-test, never-both}
-use Rattle.plans.specs.Judging.{standsIn}
+use Rattle.plans.specs.Judging.{anyOf}
+
+-- a number stands among others
+abbrev pub among : ℕ → List ℕ → Bool
+among number numbers = anyOf (λ other. eqb number other) numbers
 
 -- one where a test holds, else none
 abbrev pub counted : Bool → ℕ
@@ -29,12 +33,12 @@ below bound (number ∷ numbers) = counted (ltb number bound) + below bound numb
 
 -- order lines of a list with so many orders, from 2 on, none of them twice
 pub record OrderLines (count : ℕ) (orders : List ℕ) : Type 0 where
-  pub each : (order : ℕ) → standsIn order orders ≡ true → (2 ≤ order) × (order ≤ suc count)
+  pub each : (order : ℕ) → among order orders ≡ true → (2 ≤ order) × (order ≤ suc count)
   pub once : (order : ℕ) → timesIn order orders ≤ 1
 
 -- the first of several numbers stands among them, and so does each of the rest
-stands-first : (number : ℕ) (numbers : List ℕ) → standsIn number (number ∷ numbers) ≡ true
-unfolding standsIn
+stands-first : (number : ℕ) (numbers : List ℕ) → among number (number ∷ numbers) ≡ true
+unfolding anyOf
 stands-first number numbers = rw (eq-eqb number number refl)
 
 -- one of two tests holds where the other does
@@ -43,9 +47,9 @@ either-true true other holds = refl
 either-true false other holds = holds
 
 -- what stands among the rest stands among all
-stands-rest : (number other : ℕ) (numbers : List ℕ) → standsIn number numbers ≡ true → standsIn number (other ∷ numbers) ≡ true
-unfolding standsIn
-stands-rest number other numbers stands = either-true (eqb number other) (standsIn number numbers) stands
+stands-rest : (number other : ℕ) (numbers : List ℕ) → among number numbers ≡ true → among number (other ∷ numbers) ≡ true
+unfolding anyOf
+stands-rest number other numbers stands = either-true (eqb number other) (among number numbers) stands
 
 -- what is no less than a number, and another, is above it
 not-same : (low high : ℕ) → low ≤ high → (low ≡ high → ⊥) → low < high
@@ -75,7 +79,7 @@ below-next bound [] = refl
 below-next bound (number ∷ numbers) = omega (arith, counted-next number bound, below-next bound numbers)
 
 -- where all are below the bound, they are all of them
-below-all : (bound : ℕ) (numbers : List ℕ) → ((number : ℕ) → standsIn number numbers ≡ true → number < bound) → below bound numbers ≡ length numbers
+below-all : (bound : ℕ) (numbers : List ℕ) → ((number : ℕ) → among number numbers ≡ true → number < bound) → below bound numbers ≡ length numbers
 unfolding below
 below-all bound [] all = refl
 below-all bound (number ∷ numbers) all =
@@ -84,7 +88,7 @@ below-all bound (number ∷ numbers) all =
     rw (lt-ltb number bound (all number (stands-first number numbers))) (omega (arith, rest))
 
 -- where none is, there are none
-below-none : (bound : ℕ) (numbers : List ℕ) → ((number : ℕ) → standsIn number numbers ≡ true → bound ≤ number) → below bound numbers ≡ 0
+below-none : (bound : ℕ) (numbers : List ℕ) → ((number : ℕ) → among number numbers ≡ true → bound ≤ number) → below bound numbers ≡ 0
 unfolding below
 below-none bound [] all = refl
 below-none bound (number ∷ numbers) all =
@@ -108,7 +112,7 @@ few-loads count orders lines =
 
 -- a plan with no load names none twice
 pub no-order-lines : (count : ℕ) → OrderLines count []
-unfolding standsIn timesIn
+unfolding anyOf timesIn
 no-order-lines count = record { each = λ order stands. absurd (never-both stands refl); once = λ order. omega arith }
 
 -- a number that stands among others and one more is one of them or that one
@@ -118,14 +122,14 @@ either false other holds first second = second holds
 
 -- a number among others and one more is one of them or that one
 stands-more :
-    {C : Type 0} (number other : ℕ) (numbers : List ℕ) → standsIn number (numbers ++ other ∷ []) ≡ true → (standsIn number numbers ≡ true → C)
+    {C : Type 0} (number other : ℕ) (numbers : List ℕ) → among number (numbers ++ other ∷ []) ≡ true → (among number numbers ≡ true → C)
     → (number ≡ other → C) → C
-unfolding standsIn
-stands-more number other [] stands among last =
+unfolding anyOf
+stands-more number other [] stands earlier last =
     either (eqb number other) false stands (λ same. last (eqb-true number other same)) (λ never. absurd (never-both never refl))
-stands-more number other (first ∷ numbers) stands among last =
-    either (eqb number first) (standsIn number (numbers ++ other ∷ [])) stands (λ same. among (rw same))
-    (λ later. stands-more number other numbers later (λ earlier. among (stands-rest number first numbers earlier)) last)
+stands-more number other (first ∷ numbers) stands earlier last =
+    either (eqb number first) (among number (numbers ++ other ∷ [])) stands (λ same. earlier (rw same))
+    (λ later. stands-more number other numbers later (λ found. earlier (stands-rest number first numbers found)) last)
 
 -- how often it stands there
 times-more : (number other : ℕ) (numbers : List ℕ) → timesIn number (numbers ++ other ∷ []) ≡ timesIn number numbers + counted (eqb number other)
@@ -139,16 +143,16 @@ neither true other fails = absurd (never-both refl fails)
 neither false other fails = (refl, fails)
 
 -- a number that does not stand among others stands there no time
-never-times : (number : ℕ) (numbers : List ℕ) → standsIn number numbers ≡ false → timesIn number numbers ≡ 0
-unfolding standsIn timesIn
+never-times : (number : ℕ) (numbers : List ℕ) → among number numbers ≡ false → timesIn number numbers ≡ 0
+unfolding anyOf timesIn
 never-times number [] none = refl
 never-times number (first ∷ numbers) none =
-    let both = neither (eqb number first) (standsIn number numbers) none in
+    let both = neither (eqb number first) (among number numbers) none in
     rw (both .0) (omega (arith, never-times number numbers (both .1)))
 
 -- a load more, of an order line of the list that stands on no earlier one
 pub order-lines-more :
-    (count order : ℕ) (orders : List ℕ) → within 2 (suc count) order ≡ true → standsIn order orders ≡ false → OrderLines count orders
+    (count order : ℕ) (orders : List ℕ) → within 2 (suc count) order ≡ true → among order orders ≡ false → OrderLines count orders
     → OrderLines count (orders ++ order ∷ [])
 order-lines-more count order orders inside new lines =
     record {

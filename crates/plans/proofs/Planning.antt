@@ -1,53 +1,51 @@
 -- Going through a plan: what is known of its loads at each line, and what a line comes to. Assumes nothing.
 use Prim.Native.Nat.{ℕ, zero, suc, _+_, _-_, _≤_, _<_}
 use mathlib.Core.Path.{_≡_, refl, sym, ap, _∙_}
-use mathlib.Core.Bool.{Bool, true, false, not, _||_}
-use mathlib.Core.List.{List, [], _∷_, _++_}
-use lib.ListN.{length, getD, take, drop, set, length-append, length-take, length-set}
-use lib.Seq.{take-suc-set, take-suc, getD-set-same, getD-set-other}
-use native.Mathlib.Numerals.{add-one}
-use native.Mathlib.Omega.{arith}
+use mathlib.Core.Bool.{Bool, true, false, not}
+use mathlib.Core.List.{List, [], _∷_, _++_, map}
+use lib.ListN.{length, getD, take, drop, set, length-append, length-map, length-set}
+use lib.Seq.{getD-set-same, getD-set-other}
 use lib.Dec.{leb, eqb}
-use borrow.Author.Tests.{eqb-true, eqb-false, ne-eqb}
+use native.Mathlib.Omega.{arith}
+use borrow.Author.Tests.{eqb-true, eqb-false, ne-eqb, not-true}
 use Rattle.ground.specs.Refusal.{Read, wrong, right, check, numberOf, _>>=_, _>>_}
-use Rattle.ground.specs.Limits.{longestText, mostOrders, firstOrderLine}
+use Rattle.ground.specs.Limits.{mostChambers, mostOrders, firstOrderLine}
 use Rattle.ground.specs.Range.{within}
 use Rattle.ground.proofs.Refusal.{refused-by}
-use Rattle.ground.proofs.Tests.{by-test, never-both}
+use Rattle.ground.proofs.Tests.{by-test}
 use Rattle.ground.proofs.Range.{within-low, within-high}
 use Rattle.texts.specs.Lines.{linesOf, lineAt, pastLine}
+use Rattle.texts.proofs.WholeText.{part-is-line}
 use Rattle.lines.specs.Reading.{loadOf}
-use Rattle.lines.specs.declared.Heading.{Heading}
+use Rattle.lines.specs.declared.Order.{Order}
 use Rattle.lines.specs.declared.Load.{Load}
-use Rattle.texts.proofs.Promises.{walk-on}
-use Rattle.texts.proofs.WholeText.{lines-within, part-is-line}
-use Rattle.plans.specs.Judging.{through, PlanKnown, standsIn, overlapsAny, loadChecked, noteLoad, planJudged, loadsCounted}
-use Rattle.loads.specs.Checks.{overlap, loadAsked, loadMarked}
-use Rattle.plans.specs.Steps.{loadRefusal, Loaded}
+use Rattle.lines.proofs.Promises.{load-ranges}
+use Rattle.book.specs.Taking.{hold}
+use Rattle.book.specs.declared.Book.{Book}
+use Rattle.loads.specs.Checks.{orderNamed, loadAsked, loadMarked, overlap, loadFrom}
+use Rattle.plans.specs.Judging.{through, anyOf, standsIn, overlapsAny, loadChecked, noteLoad, planJudged, loadsCounted}
+use Rattle.plans.specs.Meaning.{faultOf}
+use Rattle.plans.specs.Steps.{ordersFrom, loadRefusal, Loaded}
 use Rattle.plans.specs.declared.LoadNoted.{LoadNoted}
-use Rattle.plans.proofs.Loading.{taken-there}
-use Rattle.plans.proofs.Pigeonhole.{OrderLines, few-loads, no-order-lines, order-lines-more}
+use Rattle.plans.proofs.Any.{any-more, any-map, or-true, or-false}
+use Rattle.plans.proofs.Chains.{Chained, chained-none, chained-more, Searched, searched-none, found, searched-found, searched-on}
+use Rattle.plans.proofs.Pigeonhole.{among, OrderLines, few-loads, no-order-lines, order-lines-more}
 use Rattle.plans.proofs.Going.{through-done, through-on, through-stops}
-
--- a test whose contrary holds fails
-not-not : (test : Bool) → not test ≡ true → test ≡ false
-not-not true holds = absurd (never-both holds refl)
-not-not false holds = refl
+use Rattle.plans.proofs.Texts.{orders-counted, orders-hours}
 
 -- a load that passes the checks names an order that stands on no earlier line
-record Met (run : ℕ) (readies dues orders : List ℕ) (load : Load) : Type 0 where
-  named : within firstOrderLine (suc (length readies)) (load .order) ≡ true
-  new : standsIn (load .order) orders ≡ false
-  passed : loadChecked run readies dues orders load ≡ right tt
+record Met (run : ℕ) (orders : List Order) (seen : List Load) (load : Load) : Type 0 where
+  named : within firstOrderLine (suc (length orders)) (load .order) ≡ true
+  new : standsIn (load .order) seen ≡ false
+  passed : loadChecked run orders seen load ≡ right tt
 
-met : (run : ℕ) (readies dues orders : List ℕ) (load : Load) → numberOf (loadChecked run readies dues orders load) ≡ 0 → Met run readies dues orders load
+met : (run : ℕ) (orders : List Order) (seen : List Load) (load : Load) → numberOf (loadChecked run orders seen load) ≡ 0 → Met run orders seen load
 unfolding loadAsked
-met run readies dues orders load none =
-    let place = load .order - firstOrderLine in
+met run orders seen load none =
     let facts =
-    go (within firstOrderLine (suc (length readies)) (load .order)) (not (standsIn (load .order) orders)) (leb (getD readies place 0) (load .start))
-    (leb (load .start + run) (getD dues place 0)) none in
-    record { named = facts .0; new = not-not (standsIn (load .order) orders) (facts .1); passed = facts .2 }
+    go (within firstOrderLine (suc (length orders)) (load .order)) (not (standsIn (load .order) seen)) (leb (orderNamed orders load .ready) (load .start))
+    (leb (load .start + run) (orderNamed orders load .due)) none in
+    record { named = facts .0; new = not-true (standsIn (load .order) seen) (facts .1); passed = facts .2 }
   where
     go :
         (named new ready due : Bool) → numberOf (check named 11 >> (check new 12 >> (check ready 13 >> check due 14))) ≡ 0
@@ -58,175 +56,83 @@ met run readies dues orders load none =
     go true false ready due none = absurd (omega arith)
     go false new ready due none = absurd (omega arith)
 
--- a load more at the end overlaps where the others do or it does
-overlaps-more :
-    (hold chamber start : ℕ) (chambers starts : List ℕ) (other begins : ℕ) → length chambers ≡ length starts
-    → overlapsAny hold chamber start (chambers ++ other ∷ []) (starts ++ begins ∷ [])
-    ≡ (overlapsAny hold chamber start chambers starts || overlap hold chamber start other begins)
-unfolding overlapsAny
-overlaps-more hold chamber start [] [] other begins same = last (overlap hold chamber start other begins)
-  where
-    last : (test : Bool) → (test || false) ≡ (false || test)
-    last true = refl
-    last false = refl
-overlaps-more hold chamber start [] (first ∷ starts) other begins same = absurd (omega arith)
-overlaps-more hold chamber start (one ∷ chambers) [] other begins same = absurd (omega arith)
-overlaps-more hold chamber start (one ∷ chambers) (first ∷ starts) other begins same =
-    rw (overlaps-more hold chamber start chambers starts other begins (omega arith)) (three (overlap hold chamber start one first) _ _)
-  where
-    three : (here among last : Bool) → (here || (among || last)) ≡ ((here || among) || last)
-    three true among last = refl
-    three false among last = refl
+-- each order has a plan line kept exactly where it stands among the loads seen
+abbrev pub Marks : ℕ → List ℕ → List Load → Type 0
+Marks count lines seen =
+    (order : ℕ) → within firstOrderLine (suc count) order ≡ true → eqb (getD lines (order - firstOrderLine) 0) 0 ≡ not (standsIn order seen)
 
--- a load that one of them overlaps overlaps some
-overlaps-found :
-    (hold chamber start : ℕ) (chambers starts : List ℕ) (at : ℕ) → at < length chambers → at < length starts
-    → overlap hold chamber start (getD chambers at 0) (getD starts at 0) ≡ true → overlapsAny hold chamber start chambers starts ≡ true
-unfolding overlapsAny
-overlaps-found hold chamber start [] starts at inside there meets = absurd (omega arith)
-overlaps-found hold chamber start (one ∷ chambers) [] at inside there meets = absurd (omega arith)
-overlaps-found hold chamber start (one ∷ chambers) (first ∷ starts) zero inside there meets = rw meets
-overlaps-found hold chamber start (one ∷ chambers) (first ∷ starts) (suc at) inside there meets =
-    later (overlap hold chamber start one first) (overlaps-found hold chamber start chambers starts at (omega arith) (omega arith) meets)
-  where
-    later : (here : Bool) {among : Bool} → among ≡ true → (here || among) ≡ true
-    later true holds = refl
-    later false holds = holds
+-- A plan line, for a list that begins with this book and has orders of these hours.
+module _ (book : Book) (readies dues lines : List ℕ) (paired : length dues ≡ length readies) (seen : List Load) where
+  -- the orders
+  abbrev orders : List Order
+  orders = ordersFrom readies dues
 
--- the search among the first few goes on where none of them overlaps, and has found one where the next does
-module _ (hold chamber start : ℕ) (chambers starts : List ℕ) (earlier : ℕ) (inside : earlier < length chambers) (there : earlier < length starts) where
-  pub search-on :
-      overlapsAny hold chamber start (take earlier chambers) (take earlier starts) ≡ false
-      → overlap hold chamber start (getD chambers earlier 0) (getD starts earlier 0) ≡ false
-      → overlapsAny hold chamber start (take (earlier + 1) chambers) (take (earlier + 1) starts) ≡ false
-  search-on none apart =
-      let same : length (take earlier chambers) ≡ length (take earlier starts) = simp length-take (omega arith) in
-      rw (add-one, take-suc chambers earlier 0 inside, take-suc starts earlier 0 there, overlaps-more hold chamber start _ _ (getD chambers earlier 0) (getD starts earlier 0) same, none, apart)
+  module _ (marked : Marks (length orders) lines seen) where
+    -- the checks by the lines that are kept are the checks by the loads seen
+    same-checks : (load : Load) → loadMarked (book .run) readies dues lines load ≡ loadChecked (book .run) orders seen load
+    unfolding loadAsked
+    same-checks load =
+        rw (orders-hours readies dues (load .order - firstOrderLine) paired, ← orders-counted readies dues paired)
+        (by-test (within firstOrderLine (suc (length orders)) (load .order)) (λ inside. rw (marked (load .order) inside)) (λ outside. rw outside))
 
-  pub search-found :
-      (count : ℕ) → earlier < count → overlap hold chamber start (getD chambers earlier 0) (getD starts earlier 0) ≡ true
-      → overlapsAny hold chamber start (take count chambers) (take count starts) ≡ true
-  search-found count among meets =
-      overlaps-found hold chamber start (take count chambers) (take count starts) earlier (simp length-take (omega arith)) (simp length-take (omega arith))
-      (rw (taken-there chambers count earlier among, taken-there starts count earlier among) meets)
+    module _ (line : List ℕ) (noted : LoadNoted) (loaded : Loaded (book .chambers) (book .run) readies dues lines line noted) where
+      -- what is asked of a load that reads
+      abbrev rest : Load → Read (List Load)
+      rest load =
+          loadChecked (book .run) orders seen load >> (check (not (overlapsAny (hold book) load seen)) 15 >> right (seen ++ load ∷ []))
 
--- what is known of a plan: the order lines seen, and the loads' chambers and starts at the front of two buffers
-abbrev pub known : List ℕ → List ℕ → List ℕ → ℕ → PlanKnown
-known orders in-chambers starts count = record { orders = orders; chambers = take count in-chambers; starts = take count starts }
+      -- the number of a load that reads
+      number-is : (load : Load) → loadOf (book .chambers) line ≡ right load → noted .refusal ≡ numberOf (loadChecked (book .run) orders seen load)
+      number-is load reads = loaded .refused ∙ ap (loadRefusal (book .run) readies dues lines) reads ∙ ap numberOf (same-checks load)
 
--- each order has a plan line kept exactly where it stands among those seen
-abbrev pub Marks : ℕ → List ℕ → List ℕ → Type 0
-Marks count lines orders =
-    (order : ℕ) → within firstOrderLine (suc count) order ≡ true → eqb (getD lines (order - firstOrderLine) 0) 0 ≡ not (standsIn order orders)
+      -- a line that is refused up to 14
+      pub line-refused : (noted .refusal ≡ 0 → ⊥) → noteLoad book orders seen line ≡ wrong (noted .refusal)
+      unfolding noteLoad
+      line-refused some = go (loadOf (book .chambers) line) refl
+        where
+          go : (read : Read Load) → loadOf (book .chambers) line ≡ read → _≡_ {A = Read (List Load)} (read >>= rest) (wrong (noted .refusal))
+          go (wrong number) reads = ap wrong (sym (loaded .refused ∙ ap (loadRefusal (book .run) readies dues lines) reads))
+          go (right load) reads =
+              let number = number-is load reads in
+              rw (refused-by (loadChecked (book .run) orders seen load) (λ none. some (number ∙ none)), number)
 
--- then the checks by those lines are the checks by the orders seen
-same-checks :
-    (run : ℕ) (readies dues lines orders : List ℕ) → Marks (length readies) lines orders → (load : Load)
-    → loadMarked run readies dues lines load ≡ loadChecked run readies dues orders load
-unfolding loadAsked
-same-checks run readies dues lines orders marked load =
-    by-test (within firstOrderLine (suc (length readies)) (load .order)) (λ inside. rw (marked (load .order) inside)) (λ outside. rw outside)
+      module _ (none : noted .refusal ≡ 0) where
+        -- one that is not has a load that passes the checks
+        line-met : Met (book .run) orders seen (noted .load)
+        line-met = met (book .run) orders seen (noted .load) (sym (number-is (noted .load) (loaded .load none)) ∙ none)
 
-module _ (heading : Heading) (readies dues lines : List ℕ) (seen : PlanKnown) (marked : Marks (length readies) lines (seen .orders)) (line : List ℕ) (noted : LoadNoted)
-    (loaded : Loaded (heading .chambers) (heading .run) readies dues lines line noted) where
-  -- what is asked of a load that reads
-  abbrev rest : Load → Read PlanKnown
-  rest load =
-      loadChecked (heading .run) readies dues (seen .orders) load
-      >> (check (not (overlapsAny (heading .run) (load .chamber) (load .start) (seen .chambers) (seen .starts))) 15
-      >> right (record {
-        orders = seen .orders ++ load .order ∷ [];
-        chambers = seen .chambers ++ load .chamber ∷ [];
-        starts = seen .starts ++ load .start ∷ [];
-      }))
+        -- in one of the chambers
+        pub chamber-range : (1 ≤ noted .load .chamber) × (noted .load .chamber ≤ book .chambers)
+        chamber-range = let ranges = load-ranges (book .chambers) line (noted .load) (loaded .load none) in (ranges .1, ranges .2)
 
-  -- the number of a load that reads
-  number-is :
-      (load : Load) → loadOf (heading .chambers) line ≡ right load
-      → noted .refusal ≡ numberOf (loadChecked (heading .run) readies dues (seen .orders) load)
-  number-is load reads =
-      loaded .refused ∙ ap (loadRefusal (heading .run) readies dues lines) reads
-      ∙ ap numberOf (same-checks (heading .run) readies dues lines (seen .orders) marked load)
+        -- and is refused by 15 where it overlaps
+        pub line-overlaps : overlapsAny (hold book) (noted .load) seen ≡ true → noteLoad book orders seen line ≡ wrong 15
+        unfolding noteLoad
+        line-overlaps meets = rw (loaded .load none, line-met .passed, meets)
 
-  -- a line that is refused up to 14
-  pub line-refused : (noted .refusal ≡ 0 → ⊥) → noteLoad heading readies dues seen line ≡ wrong (noted .refusal)
-  unfolding noteLoad
-  line-refused some = go (loadOf (heading .chambers) line) refl
-    where
-      go : (read : Read Load) → loadOf (heading .chambers) line ≡ read → _≡_ {A = Read PlanKnown} (read >>= rest) (wrong (noted .refusal))
-      go (wrong number) reads = ap wrong (sym (loaded .refused ∙ ap (loadRefusal (heading .run) readies dues lines) reads))
-      go (right load) reads =
-          let number = number-is load reads in
-          rw (refused-by (loadChecked (heading .run) readies dues (seen .orders) load) (λ none. some (number ∙ none)), number)
-
-  module _ (none : noted .refusal ≡ 0) where
-    -- one that is not has a load that passes the checks
-    line-met : Met (heading .run) readies dues (seen .orders) (noted .load)
-    line-met = met (heading .run) readies dues (seen .orders) (noted .load) (sym (number-is (noted .load) (loaded .load none)) ∙ none)
-
-    -- and is refused by 15 where it overlaps
-    pub line-overlaps :
-        overlapsAny (heading .run) (noted .load .chamber) (noted .load .start) (seen .chambers) (seen .starts) ≡ true
-        → noteLoad heading readies dues seen line ≡ wrong 15
-    unfolding noteLoad
-    line-overlaps meets = rw (loaded .load none, line-met .passed, meets)
-
-    -- or is noted where it does not
-    pub line-noted :
-        overlapsAny (heading .run) (noted .load .chamber) (noted .load .start) (seen .chambers) (seen .starts) ≡ false
-        → noteLoad heading readies dues seen line
-        ≡ right (record {
-          orders = seen .orders ++ noted .load .order ∷ [];
-          chambers = seen .chambers ++ noted .load .chamber ∷ [];
-          starts = seen .starts ++ noted .load .start ∷ [];
-        })
-    unfolding noteLoad
-    line-noted apart = rw (loaded .load none, line-met .passed, apart)
-
--- a number stored behind the first few is one of them
-one-more : (numbers : List ℕ) (count number : ℕ) → count < length numbers → take (count + 1) (set numbers count number) ≡ take count numbers ++ number ∷ []
-one-more numbers count number room = rw (add-one, take-suc-set numbers count number room)
-
--- a number stands among others and one more where it stands among them or is that one
-stands-more : (number : ℕ) (others : List ℕ) (last : ℕ) → standsIn number (others ++ last ∷ []) ≡ (standsIn number others || eqb number last)
-unfolding standsIn
-stands-more number [] last = only (eqb number last)
-  where
-    only : (test : Bool) → (test || false) ≡ (false || test)
-    only true = refl
-    only false = refl
-stands-more number (other ∷ others) last = rw (stands-more number others last) (three (eqb number other) _ _)
-  where
-    three : (here among last : Bool) → (here || (among || last)) ≡ ((here || among) || last)
-    three true among last = refl
-    three false among last = refl
+        -- or is noted where it does not
+        line-noted : overlapsAny (hold book) (noted .load) seen ≡ false → noteLoad book orders seen line ≡ right (seen ++ noted .load ∷ [])
+        unfolding noteLoad
+        line-noted apart = rw (loaded .load none, line-met .passed, apart)
 
 -- a plan line kept for an order that stands on none yet
 marks-more :
-    (count : ℕ) (lines orders : List ℕ) (order line : ℕ) → within firstOrderLine (suc count) order ≡ true → 1 ≤ line
-    → order - firstOrderLine < length lines → Marks count lines orders → Marks count (set lines (order - firstOrderLine) line) (orders ++ order ∷ [])
-marks-more count lines orders order line inside some room marked other there =
-    by-test (eqb other order)
+    (count : ℕ) (lines : List ℕ) (seen : List Load) (load : Load) (line : ℕ) → within firstOrderLine (suc count) (load .order) ≡ true → 1 ≤ line
+    → load .order - firstOrderLine < length lines → Marks count lines seen → Marks count (set lines (load .order - firstOrderLine) line) (seen ++ load ∷ [])
+marks-more count lines seen load line inside some room marked other there =
+    by-test (eqb other (load .order))
     (λ same.
-    let e : other ≡ order = eqb-true other order same in
-    rw (stands-more other orders order, same, ap (λ (number : ℕ). number - firstOrderLine) e, getD-set-same lines (order - firstOrderLine) line 0 room, ne-eqb line 0 (λ none. omega arith))
-    (or-true (standsIn other orders)))
+    let e : other ≡ load .order = eqb-true other (load .order) same in
+    rw (any-more (λ earlier. eqb other (earlier .order)) seen load, same, ap (λ (number : ℕ). number - firstOrderLine) e, getD-set-same lines (load .order - firstOrderLine) line 0 room, ne-eqb line 0 (λ none. omega arith), or-true)
+    refl)
     (λ differs.
-    let apart : (other - firstOrderLine ≡ order - firstOrderLine) → ⊥ =
-    λ same. eqb-false other order differs (omega (arith, same, within-low firstOrderLine (suc count) other there, within-low firstOrderLine (suc count) order inside)) in
-    rw (stands-more other orders order, differs, getD-set-other lines (order - firstOrderLine) (other - firstOrderLine) line 0 apart) (marked other there ∙ or-false (standsIn other orders)))
-  where
-    or-true : (test : Bool) → false ≡ not (test || true)
-    or-true true = refl
-    or-true false = refl
-
-    or-false : (test : Bool) → not test ≡ not (test || false)
-    or-false true = refl
-    or-false false = refl
+    let apart : (other - firstOrderLine ≡ load .order - firstOrderLine) → ⊥ =
+    λ same. eqb-false other (load .order) differs (omega (arith, same, within-low firstOrderLine (suc count) other there, within-low firstOrderLine (suc count) (load .order) inside)) in
+    rw (any-more (λ earlier. eqb other (earlier .order)) seen load, differs, getD-set-other lines (load .order - firstOrderLine) (other - firstOrderLine) line 0 apart, or-false) (marked other there))
 
 -- at first none stands
 marks-none : (count : ℕ) (lines : List ℕ) → ((place : ℕ) → getD lines place 0 ≡ 0) → Marks count lines []
-unfolding standsIn
+unfolding anyOf
 marks-none count lines zeros order inside = rw (zeros (order - firstOrderLine))
 
 -- what a line of the plan comes to, noted as a part of the plan
@@ -235,109 +141,187 @@ pub loaded-line :
     → Loaded count run readies dues lines (take (end - at) (drop at plan)) noted → Loaded count run readies dues lines (lineAt plan at) noted
 loaded-line plan at end past loaded = rw (part-is-line plan at end past) at loaded
 
--- how far a plan has been gone through: what is left gives what the whole gives, and the orders seen are different ones of the list
-pub record Reached (plan : List ℕ) (heading : Heading) (readies dues lines in-chambers starts : List ℕ) (count line at : ℕ) : Type 0 where
-  pub orders : List ℕ
-  pub ordered : length orders ≡ count
-  pub marked : Marks (length readies) lines orders
+-- the order lines of loads
+abbrev orderLinesOf : List Load → List ℕ
+orderLinesOf seen = map (λ load. load .order) seen
+
+-- with one more
+order-lines-behind : (seen : List Load) (load : Load) → orderLinesOf seen ++ load .order ∷ [] ≡ orderLinesOf (seen ++ load ∷ [])
+order-lines-behind [] load = refl
+order-lines-behind (first ∷ seen) load = ap (λ rest. first .order ∷ rest) (order-lines-behind seen load)
+
+-- what is not 0 is at least 1
+not-zero : (number : ℕ) → (number ≡ 0 → ⊥) → 1 ≤ number
+not-zero zero some = absurd (some refl)
+not-zero (suc number) some = omega arith
+
+-- how far a plan has been gone through: what is left gives what the whole gives, the loads seen are of different orders of the list,
+-- and every one of them is reached from the last plan line of its chamber back
+pub record Reached (plan : List ℕ) (book : Book) (readies dues lines starts befores lasts : List ℕ) (line at : ℕ) : Type 0 where
+  pub seen : List Load
+  pub counted : line ≡ suc (length seen)
+  pub marked : Marks (length (ordersFrom readies dues)) lines seen
   pub whole :
-      through (noteLoad heading readies dues) true line at (known orders in-chambers starts count) (linesOf (drop at plan))
-      ≡ planJudged plan heading readies dues
-  pub sized : (length lines ≡ mostOrders) × (length in-chambers ≡ mostOrders) × (length starts ≡ mostOrders)
-  pub named : OrderLines (length readies) orders
-  pub few : count ≤ length readies
-  pub numbered : (1 ≤ line) × (line + length (linesOf (drop at plan)) ≤ suc longestText)
+      through (noteLoad book (ordersFrom readies dues)) true line at seen (linesOf (drop at plan)) ≡ planJudged plan book (ordersFrom readies dues)
+  pub sized : (length lines ≡ mostOrders) × (length starts ≡ mostOrders) × (length befores ≡ mostOrders) × (length lasts ≡ mostChambers)
+  pub named : OrderLines (length (ordersFrom readies dues)) (orderLinesOf seen)
+  pub few : length seen ≤ length readies
+  pub chained : (chamber : ℕ) → 1 ≤ chamber → Chained starts befores chamber (getD lasts (chamber - 1) 0) seen
 
 -- at the top nothing is seen
 pub reached-top :
-    (plan : List ℕ) (heading : Heading) (readies dues lines in-chambers starts : List ℕ) → length plan ≤ longestText
-    → (length lines ≡ mostOrders) × (length in-chambers ≡ mostOrders) × (length starts ≡ mostOrders) → ((place : ℕ) → getD lines place 0 ≡ 0)
-    → Reached plan heading readies dues lines in-chambers starts 0 1 0
+    (plan : List ℕ) (book : Book) (readies dues lines starts befores lasts : List ℕ)
+    → (length lines ≡ mostOrders) × (length starts ≡ mostOrders) × (length befores ≡ mostOrders) × (length lasts ≡ mostChambers)
+    → ((place : ℕ) → getD lines place 0 ≡ 0) → ((place : ℕ) → getD lasts place 0 ≡ 0) → Reached plan book readies dues lines starts befores lasts 1 0
 unfolding planJudged
-reached-top plan heading readies dues lines in-chambers starts short sized zeros =
+reached-top plan book readies dues lines starts befores lasts sized zeros none =
     record {
-      orders = [];
-      ordered = refl;
-      marked = marks-none (length readies) lines zeros;
+      seen = [];
+      counted = refl;
+      marked = marks-none (length (ordersFrom readies dues)) lines zeros;
       whole = refl;
       sized = sized;
-      named = no-order-lines (length readies);
+      named = no-order-lines (length (ordersFrom readies dues));
       few = omega arith;
-      numbered = (omega arith, omega (arith, lines-within plan));
+      chained = λ chamber low. chained-none starts befores chamber (getD lasts (chamber - 1) 0) (none (chamber - 1));
     }
 
-module _ {plan : List ℕ} {heading : Heading} {readies dues lines in-chambers starts : List ℕ} {count line at : ℕ}
-    (reached : Reached plan heading readies dues lines in-chambers starts count line at) where
-  -- what is known there
-  abbrev pub seen-at : PlanKnown
-  seen-at = known (reached .orders) in-chambers starts count
-
+module _ {plan : List ℕ} {book : Book} {readies dues lines starts befores lasts : List ℕ} {line at : ℕ}
+    (reached : Reached plan book readies dues lines starts befores lasts line at) where
   -- at the end the loads are counted
-  pub reached-end : length plan ≤ at → loadsCounted plan heading readies dues ≡ right count
+  pub reached-end : length plan ≤ at → loadsCounted plan book (ordersFrom readies dues) ≡ right (line - 1)
   unfolding loadsCounted
   reached-end past =
-      rw (← reached .whole, through-done (noteLoad heading readies dues) true line at seen-at plan past, reached .ordered)
+      let count : line - 1 ≡ length (reached .seen) = omega (arith, reached .counted) in
+      rw (← reached .whole, through-done (noteLoad book (ordersFrom readies dues)) true line at (reached .seen) plan past, count)
 
   -- a line that cannot be noted is the fault
   pub reached-fault :
-      at < length plan → (number : ℕ) → noteLoad heading readies dues seen-at (lineAt plan at) ≡ wrong number
-      → loadsCounted plan heading readies dues ≡ wrong (record { number = number; plan = true; line = line; from = at; to = pastLine plan at })
+      at < length plan → (number : ℕ) → noteLoad book (ordersFrom readies dues) (reached .seen) (lineAt plan at) ≡ wrong number
+      → loadsCounted plan book (ordersFrom readies dues) ≡ wrong (faultOf number true line at (pastLine plan at))
   unfolding loadsCounted
   reached-fault inside number refused =
-      rw (← reached .whole, through-stops (noteLoad heading readies dues) true line at seen-at plan inside number refused)
+      rw (← reached .whole, through-stops (noteLoad book (ordersFrom readies dues)) true line at (reached .seen) plan inside number refused)
 
-  module _ (fits : length readies ≤ mostOrders) (noted : LoadNoted) (loaded : Loaded (heading .chambers) (heading .run) readies dues lines (lineAt plan at) noted)
-      (none : noted .refusal ≡ 0) where
+  module _ (paired : length dues ≡ length readies) (most : length readies ≤ mostOrders) (chambers : book .chambers ≤ mostChambers) (noted : LoadNoted)
+      (loaded : Loaded (book .chambers) (book .run) readies dues lines (lineAt plan at) noted) (none : noted .refusal ≡ 0) where
     -- the load passes the checks
-    passes : Met (heading .run) readies dues (reached .orders) (noted .load)
-    passes = line-met heading readies dues lines seen-at (reached .marked) (lineAt plan at) noted loaded none
+    passes : Met (book .run) (ordersFrom readies dues) (reached .seen) (noted .load)
+    passes = line-met book readies dues lines paired (reached .seen) (reached .marked) (lineAt plan at) noted loaded none
 
-    more : OrderLines (length readies) (reached .orders ++ noted .load .order ∷ [])
-    more = order-lines-more (length readies) (noted .load .order) (reached .orders) (passes .named) (passes .new) (reached .named)
+    -- its chamber is one of those that there can be
+    pub load-chamber : (1 ≤ noted .load .chamber) × (noted .load .chamber ≤ mostChambers)
+    load-chamber =
+        let range = chamber-range book readies dues lines paired (reached .seen) (reached .marked) (lineAt plan at) noted loaded none in
+        (range .0, omega (arith, range .1, chambers))
+
+    -- the loads seen in its chamber
+    pub chained-there : Chained starts befores (noted .load .chamber) (getD lasts (noted .load .chamber - 1) 0) (reached .seen)
+    chained-there = reached .chained (noted .load .chamber) (load-chamber .0)
+
+    more : OrderLines (length (ordersFrom readies dues)) (orderLinesOf (reached .seen ++ noted .load ∷ []))
+    more =
+        rw (← order-lines-behind (reached .seen) (noted .load))
+        (order-lines-more (length (ordersFrom readies dues)) (noted .load .order) (orderLinesOf (reached .seen)) (passes .named)
+        (any-map (λ other. eqb (noted .load .order) other) (λ load. load .order) (reached .seen) ∙ passes .new) (reached .named))
 
     -- it has an order of its own, so there is room for it
-    pub reached-room : suc count ≤ length readies
+    pub reached-room : line ≤ length readies
     reached-room =
         omega (
           arith,
-          few-loads (length readies) (reached .orders ++ noted .load .order ∷ []) more,
-          reached .ordered,
-          length-append (reached .orders) (noted .load .order ∷ []),
+          few-loads (length (ordersFrom readies dues)) (orderLinesOf (reached .seen ++ noted .load ∷ [])) more,
+          length-map (reached .seen ++ noted .load ∷ []) (λ (load : Load). load .order),
+          orders-counted readies dues paired,
+          reached .counted,
+          length-append (reached .seen) (noted .load ∷ []),
         )
 
     -- and for its line
     pub order-room : noted .load .order - firstOrderLine < mostOrders
-    order-room = omega (arith, within-high firstOrderLine (suc (length readies)) (noted .load .order) (passes .named))
+    order-room =
+        omega (
+          arith,
+          most,
+          orders-counted readies dues paired,
+          within-high firstOrderLine (suc (length (ordersFrom readies dues))) (noted .load .order) (passes .named),
+        )
 
     -- a line that can be noted is passed, with its load at the end of those seen
     pub reached-next :
-        at < length plan
-        → overlapsAny (heading .run) (noted .load .chamber) (noted .load .start) (take count in-chambers) (take count starts) ≡ false
-        → Reached plan heading readies dues (set lines (noted .load .order - firstOrderLine) line) (set in-chambers count (noted .load .chamber)) (set starts count (noted .load .start))
-        (count + 1) (line + 1) (pastLine plan at)
+        at < length plan → overlapsAny (hold book) (noted .load) (reached .seen) ≡ false
+        → Reached plan book readies dues (set lines (noted .load .order - firstOrderLine) line) (set starts (line - 1) (noted .load .start))
+        (set befores (line - 1) (getD lasts (noted .load .chamber - 1) 0)) (set lasts (noted .load .chamber - 1) line) (line + 1) (pastLine plan at)
     reached-next inside apart =
-        let room : suc count ≤ length readies = reached-room in
-        let chambers-more = one-more in-chambers count (noted .load .chamber) (omega (arith, room, reached .sized .1)) in
-        let starts-more = one-more starts count (noted .load .start) (omega (arith, room, reached .sized .2)) in
-        let left : length (linesOf (drop at plan)) ≡ suc (length (linesOf (drop (pastLine plan at) plan))) = ap length (walk-on plan at inside) in
+        let load = noted .load in
+        let room : line ≤ length readies = reached-room in
+        let place : line - 1 ≡ length (reached .seen) = omega (arith, reached .counted) in
         record {
-          orders = reached .orders ++ noted .load .order ∷ [];
-          ordered = simp length-append (omega (arith, reached .ordered));
+          seen = reached .seen ++ load ∷ [];
+          counted = simp length-append (omega (arith, reached .counted));
           marked =
-              marks-more (length readies) lines (reached .orders) (noted .load .order) line (passes .named) (reached .numbered .0)
+              marks-more (length (ordersFrom readies dues)) lines (reached .seen) load line (passes .named) (omega (arith, reached .counted))
               (omega (arith, order-room, reached .sized .0)) (reached .marked);
           whole =
-              rw (chambers-more, starts-more)
-              (sym
-              (through-on (noteLoad heading readies dues) true line at seen-at plan inside _
-              (line-noted heading readies dues lines seen-at (reached .marked) (lineAt plan at) noted loaded none apart))
-              ∙ reached .whole);
+              sym
+              (through-on (noteLoad book (ordersFrom readies dues)) true line at (reached .seen) plan inside _
+              (line-noted book readies dues lines paired (reached .seen) (reached .marked) (lineAt plan at) noted loaded none apart))
+              ∙ reached .whole;
           sized = (
-            length-set lines (noted .load .order - firstOrderLine) line ∙ reached .sized .0,
-            length-set in-chambers count (noted .load .chamber) ∙ reached .sized .1,
-            length-set starts count (noted .load .start) ∙ reached .sized .2,
+            length-set lines (load .order - firstOrderLine) line ∙ reached .sized .0,
+            length-set starts (line - 1) (load .start) ∙ reached .sized .1,
+            length-set befores (line - 1) (getD lasts (load .chamber - 1) 0) ∙ reached .sized .2,
+            length-set lasts (load .chamber - 1) line ∙ reached .sized .3,
           );
           named = more;
-          few = omega (arith, room);
-          numbered = (omega arith, omega (arith, left, reached .numbered .1));
+          few = simp length-append (omega (arith, room, reached .counted));
+          chained =
+              rw place
+              (chained-more starts befores (reached .seen) load
+              (omega (arith, room, most, reached .sized .1, reached .counted), omega (arith, room, most, reached .sized .2, reached .counted)) lasts line
+              (reached .counted) (load-chamber .0) (omega (arith, load-chamber .1, reached .sized .3)) (reached .chained));
         }
+
+    -- The search among the loads of its chamber, from a plan line back.
+    module _ (held earlier : ℕ) (holds : held ≡ hold book)
+        (searched : Searched starts befores held (noted .load) (getD lasts (noted .load .chamber - 1) 0) earlier) where
+      -- with no line left it overlaps none
+      pub reached-apart : earlier ≡ 0 → overlapsAny (hold book) (noted .load) (reached .seen) ≡ false
+      reached-apart none =
+          let there = chained-there in
+          rw (← holds) (sym (there .same held (noted .load) refl)
+          ∙ searched-none starts befores held (noted .load) (getD lasts (noted .load .chamber - 1) 0) earlier searched (there .loads) (there .chain) none)
+
+      module _ (some : earlier ≡ 0 → ⊥) where
+        -- that line is one of those seen
+        pub earlier-room : (1 ≤ earlier) × (earlier - 1 < mostOrders)
+        earlier-room =
+            let low : 1 ≤ earlier = not-zero earlier some in (low, omega (arith, low, searched .0, chained-there .among, reached .few, most))
+
+        -- the one before it in its chamber is an earlier one
+        pub earlier-back : getD befores (earlier - 1) 0 < earlier
+        earlier-back =
+            let there = chained-there in
+            found starts befores held (noted .load) (getD lasts (noted .load .chamber - 1) 0) earlier searched (there .loads) (there .chain) some .back
+
+        -- where that line's load is not overlapped the search goes on
+        pub earlier-on :
+            overlap held (loadFrom (noted .load .chamber) (noted .load .start)) (loadFrom (noted .load .chamber) (getD starts (earlier - 1) 0)) ≡ false
+            → Searched starts befores held (noted .load) (getD lasts (noted .load .chamber - 1) 0) (getD befores (earlier - 1) 0)
+        earlier-on apart =
+            let there = chained-there in
+            searched-on starts befores held (noted .load) (getD lasts (noted .load .chamber - 1) 0) earlier (there .loads) (there .chain) searched some apart
+
+        -- where it is, that is the fault
+        pub reached-overlap :
+            at < length plan
+            → overlap held (loadFrom (noted .load .chamber) (noted .load .start)) (loadFrom (noted .load .chamber) (getD starts (earlier - 1) 0)) ≡ true
+            → loadsCounted plan book (ordersFrom readies dues) ≡ wrong (faultOf 15 true line at (pastLine plan at))
+        reached-overlap inside meets =
+            let there = chained-there in
+            let any : overlapsAny (hold book) (noted .load) (reached .seen) ≡ true =
+            rw (← holds) (sym (there .same held (noted .load) refl)
+            ∙ searched-found starts befores held (noted .load) (getD lasts (noted .load .chamber - 1) 0) earlier searched (there .loads) (there .chain) some
+            meets) in
+            reached-fault inside 15
+            (line-overlaps book readies dues lines paired (reached .seen) (reached .marked) (lineAt plan at) noted loaded none any)

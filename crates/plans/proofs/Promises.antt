@@ -5,6 +5,7 @@ use mathlib.Core.Bool.{true, false}
 use mathlib.Core.Logic.{_↔_, _⊎_, inl, inr}
 use mathlib.Core.List.{List, []}
 use lib.ListN.{length}
+use contract.Lifetimes.{Lfts}
 use Rattle.ground.specs.Refusal.{Or, wrong, right}
 use Rattle.ground.specs.Limits.{longestText}
 use Rattle.ground.specs.Outcome.{Injective, Single}
@@ -15,18 +16,18 @@ use Rattle.lines.specs.declared.Heading.{Heading}
 use Rattle.lines.specs.declared.Order.{Order}
 use Rattle.lines.specs.declared.Load.{Load}
 use Rattle.orders.specs.Answers.{bookFor}
-use Rattle.book.specs.declared.Book.{Book}
-use Rattle.orders.specs.Answers as desk
-use Rattle.plans.specs.Judging.{judged, asJudged, shown}
-use Rattle.plans.specs.Meaning.{CleanList, Obeys, OrderWrong, LoadWrong, FirstFault}
+use Rattle.orders.specs.Meaning.{CleanList}
+use Rattle.plans.specs.Judging.{noteLoad, judged, asJudged, shown}
+use Rattle.plans.specs.Meaning.{faultOf, Obeys, LoadWrong, FirstFault, RightBefore}
 use Rattle.plans.specs.declared.Fault.{Fault}
 use Rattle.plans.specs.declared.Judgement.{Judgement}
 use Rattle.plans.specs.declared.Judgement.the-variants as judgement
-use Rattle.plans.proofs.Through.{faultOf}
+use Rattle.plans.proofs.judge.Reads as judge
+use Rattle.plans.proofs.line_at_fault.Reads as at-fault
 use Rattle.plans.proofs.Judged as judging
+use Rattle.plans.proofs.Loads as loads
 use Rattle.plans.proofs.Faults as faults
 use Rattle.plans.proofs.Front as front
-use Rattle.plans.proofs.Desk as same
 
 -- 2f: right with a number exactly when the plan obeys the list, and that is the number of plan lines
 pub right-exactly : (list plan : List ℕ) (count : ℕ) → (judged list plan ≡ right count) ↔ (Obeys list plan × (count ≡ length (linesOf plan)))
@@ -61,15 +62,14 @@ one-or-the-other list plan = by (judged list plan) refl
 -- 2f, on bytes alone: before a line of the plan at fault stands a plan that is right with the number of the line less one
 pub right-before-fault :
     (list plan : List ℕ) (fault : Fault) → judged list plan ≡ wrong fault → fault .plan ≡ true → 1 ≤ fault .line
-    → front.RightBefore list plan fault (shown fault list plan)
+    → RightBefore list plan fault (shown fault list plan)
 right-before-fault = front.right-before-fault
 
--- a list is clean for the checker exactly when it is clean for the desk
-pub clean-as-the-desk :
-    (list : List ℕ) (book : Book)
-    → desk.CleanList list book
-    ↔ ((heading : Heading) × (orders : List Order) × CleanList list heading orders × (book ≡ bookFor heading))
-clean-as-the-desk = same.clean-as-the-desk
+-- 1b: a plan line behind lines with no fault is refused exactly by its first fault: its own, 11, 12, 13, 14 or 15
+pub refused-by-its-fault :
+    (heading : Heading) (orders : List Order) (earlier : List Load) (line : List ℕ) (number : ℕ)
+    → (noteLoad (bookFor heading) orders earlier line ≡ wrong number) ↔ LoadWrong heading orders earlier line number
+refused-by-its-fault = loads.line-wrong
 
 -- 1b: 9 in the list exactly when it is longer than 65,536 bytes, with line number 0 and the empty front
 pub list-too-long : (list plan : List ℕ) → (judged list plan ≡ wrong (faultOf 9 false 0 0 0)) ↔ (longestText < length list)
@@ -86,44 +86,6 @@ pub nine-only :
     → (fault ≡ faultOf 9 false 0 0 0) ⊎ (fault ≡ faultOf 9 true 0 0 0)
 nine-only = faults.nine-only
 
--- 1b: on an order line that follows clean ones, 6 and 5 each exactly when the table says
-pub by-six : (earlier : List Order) (line : List ℕ) → OrderWrong earlier line 6 ↔ faults.ForSix earlier line
-by-six = faults.by-six
-
--- 1b: 5
-pub by-five : (earlier : List Order) (line : List ℕ) → OrderWrong earlier line 5 ↔ faults.ForFive earlier line
-by-five = faults.by-five
-
--- 1b: on a plan line that follows good ones, 11 to 15 each exactly when the table says
-pub by-eleven :
-    (heading : Heading) (orders : List Order) (earlier : List Load) (line : List ℕ)
-    → LoadWrong heading orders earlier line 11 ↔ faults.ForEleven heading orders earlier line
-by-eleven = faults.by-eleven
-
--- 1b: 12
-pub by-twelve :
-    (heading : Heading) (orders : List Order) (earlier : List Load) (line : List ℕ)
-    → LoadWrong heading orders earlier line 12 ↔ faults.ForTwelve heading orders earlier line
-by-twelve = faults.by-twelve
-
--- 1b: 13
-pub by-thirteen :
-    (heading : Heading) (orders : List Order) (earlier : List Load) (line : List ℕ)
-    → LoadWrong heading orders earlier line 13 ↔ faults.ForThirteen heading orders earlier line
-by-thirteen = faults.by-thirteen
-
--- 1b: 14
-pub by-fourteen :
-    (heading : Heading) (orders : List Order) (earlier : List Load) (line : List ℕ)
-    → LoadWrong heading orders earlier line 14 ↔ faults.ForFourteen heading orders earlier line
-by-fourteen = faults.by-fourteen
-
--- 1b: 15
-pub by-fifteen :
-    (heading : Heading) (orders : List Order) (earlier : List Load) (line : List ℕ)
-    → LoadWrong heading orders earlier line 15 ↔ faults.ForFifteen heading orders earlier line
-by-fifteen = faults.by-fifteen
-
 -- the paper's answer tells the cases of a judgement apart
 judgement-told : Injective asJudged
 judgement-told (judgement.Right one) (judgement.Right other) same = ap judgement.Right (same-right same)
@@ -131,10 +93,34 @@ judgement-told (judgement.Right one) (judgement.Wrong other) same = absurd (neve
 judgement-told (judgement.Wrong one) (judgement.Right other) same = absurd (never-right same)
 judgement-told (judgement.Wrong one) (judgement.Wrong other) same = ap judgement.Wrong (same-wrong same)
 
+-- 2f of the answer itself: it is right with a number exactly when the plan obeys the list and has so many lines
+pub answers-right :
+    (κs : Lfts 2) (list plan : _) (answer : Judgement) (after : _) → judge.Learnt κs (list, (plan, tt)) answer after → (count : ℕ)
+    → (answer ≡ judgement.Right count) ↔ (Obeys (list .now) (plan .now) × (count ≡ length (linesOf (plan .now))))
+answers-right κs list plan answer after learnt count = (
+  λ same. right-exactly (list .now) (plan .now) count .0 (sym learnt ∙ ap asJudged same),
+  λ obeys. judgement-told answer (judgement.Right count) (learnt ∙ right-exactly (list .now) (plan .now) count .1 obeys),
+)
+
+-- and wrong by a fault exactly when that is the first, with the line shown
+pub answers-wrong :
+    (κs : Lfts 2) (list plan : _) (answer : Judgement) (after : _) → judge.Learnt κs (list, (plan, tt)) answer after → (fault : Fault)
+    → (answer ≡ judgement.Wrong fault) ↔ FirstFault (list .now) (plan .now) fault (shown fault (list .now) (plan .now))
+answers-wrong κs list plan answer after learnt fault = (
+  λ same. fault-exactly (list .now) (plan .now) fault .0 (sym learnt ∙ ap asJudged same),
+  λ first. judgement-told answer (judgement.Wrong fault) (learnt ∙ fault-exactly (list .now) (plan .now) fault .1 first),
+)
+
+-- "Where there is no line (fault 9 or an empty list, which is 1), the line number is … 1 for the empty list, and the part shown is the empty front"
+pub empty-list : (plan : List ℕ) → length plan ≤ longestText → judged [] plan ≡ wrong (faultOf 1 false 1 0 0)
+empty-list = judging.empty-list
+
 -- 1d: each public function's contract admits a single outcome; of a returned part it gives the contents
-pub judge-single : (list plan : List ℕ) → Single (λ (answer : Judgement). asJudged answer ≡ judged list plan)
-judge-single list plan = single-answer asJudged judgement-told (judged list plan)
+pub judge-single : (κs : Lfts 2) (list plan : _) (after : _) → Single (λ answer. judge.Learnt κs (list, (plan, tt)) answer after)
+judge-single κs list plan after = single-answer asJudged judgement-told (judged (list .now) (plan .now))
 
 -- 1d: the line at fault, likewise
-pub line-at-fault-single : (list plan : List ℕ) (fault : Fault) → Single (λ line. line ≡ shown fault list plan)
-line-at-fault-single list plan fault = single-value (shown fault list plan)
+pub line-at-fault-single :
+    (κs : Lfts 1) (list plan : _) (fault : Fault) (after : _) (one other : _) → at-fault.Learnt κs (list, (plan, (fault, tt))) one after
+    → at-fault.Learnt κs (list, (plan, (fault, tt))) other after → one .now ≡ other .now
+line-at-fault-single κs list plan fault after one other p q = single-value (shown fault (list .now) (plan .now)) (one .now) (other .now) p q

@@ -10,11 +10,8 @@ use Rattle.ground.specs.Refusal.{Or, Read, wrong, right, _>>=_}
 use Rattle.ground.proofs.Refusal.{never-right, same-right, same-wrong}
 use Rattle.texts.specs.Meaning.{joined}
 use Rattle.plans.specs.Judging.{faultAt, through}
+use Rattle.plans.specs.Meaning.{faultOf}
 use Rattle.plans.specs.declared.Fault.{Fault}
-
--- a fault by its parts
-abbrev pub faultOf : ℕ → Bool → ℕ → ℕ → ℕ → Fault
-faultOf number plan line from to = record { number = number; plan = plan; line = line; from = from; to = to }
 
 -- one thing after another comes to a value where both do
 pub both-right :

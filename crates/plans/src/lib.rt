@@ -3,38 +3,37 @@
 ghost use mathlib.Core.Path.{_≡_};
 ghost use mathlib.Core.Bool.{true, false};
 ghost use mathlib.Core.List.{[]};
-ghost use Prim.Native.Nat.{_≤_};
+ghost use Prim.Native.Nat.{_+_, _≤_};
 ghost use lib.ListN.{length, drop};
 ghost use Rattle.ground.specs.Refusal.{wrong, right, numberOf};
-ghost use Rattle.ground.specs.Limits.{mostOrders, longestText};
-ghost use Rattle.texts.specs.Lines.{linesOf, lineAt};
-ghost use Rattle.lines.specs.Reading.{headingOf};
+ghost use Rattle.ground.specs.Limits.{mostChambers, mostOrders, longestText};
 ghost use Rattle.book.specs.Taking.{told};
 ghost use Rattle.loads.specs.Checks.{loadMarked};
-ghost use Rattle.plans.specs.Judging.{through, noteOrder, loadsCounted, bothJudged, judged, asJudged, shown};
-ghost use Rattle.plans.specs.Steps.{orderGiven, Noted, Loaded, OrdersAre};
+ghost use Rattle.orders.specs.Answers.{opening, begunWith};
+ghost use Rattle.plans.specs.Judging.{loadsCounted, bothJudged, judged, asJudged, shown};
+ghost use Rattle.plans.specs.Steps.{ordersLeft, OrdersAre, ordersFrom, Loaded};
 use book::Answer;
 use book::Book;
 use ground::LONGEST_TEXT;
+use ground::MOST_CHAMBERS;
 use ground::MOST_ORDERS;
-use lines::Heading;
-use lines::HeadingRead;
 use lines::Load;
 use lines::LoadRead;
-use lines::Order;
-use lines::OrderRead;
-use lines::read_heading;
 use lines::read_load;
-use lines::read_order;
 use loads::load_refusal;
 use loads::overlap;
 use loads::place_of;
-use texts::line_at;
+use orders::Progress;
+use orders::begin;
+use orders::next;
 use texts::line_end;
 use texts::part;
 
 // How many orders a list can have, and so how many loads a plan.
 const ORDERS: usize = MOST_ORDERS as usize;
+
+// How many chambers there can be.
+const CHAMBERS: usize = MOST_CHAMBERS as usize;
 
 // A fault: its number, whether it stands in the plan or else in the list, its line number, and the place of its line.
 pub struct Fault {
@@ -49,14 +48,6 @@ pub struct Fault {
 pub enum Judgement {
     Right(u32),
     Wrong(Fault),
-}
-
-// What an order line comes to: the refusal's number, 0 where there is none, the order's hours, and the next book.
-struct OrderNoted {
-    refusal: u32,
-    ready: u32,
-    due: u32,
-    book: Book,
 }
 
 // What a plan line comes to up to refusal 14: the refusal's number, 0 where there is none, and the load.
@@ -85,36 +76,6 @@ fn refusal_in(answer: Answer) -> u32
     }
 }
 
-// An order that the book is given.
-fn given(book: Book, order: Order) -> OrderNoted
-    ensures { λ r. ⌜ r ≡ orderGiven book order ⌝ }
-{
-    let taken = book.take(order.ready, order.due);
-    let answer = taken.answer;
-    let next = taken.book;
-    OrderNoted {
-        refusal: refusal_in(answer),
-        ready: order.ready,
-        due: order.due,
-        book: next,
-    }
-}
-
-// A line of the list, read and given to the book.
-fn note_order(book: Book, line: &[u8]) -> OrderNoted
-    ensures { λ r. ⌜ Noted book (now (line .entry)) r ⌝ }
-{
-    match read_order(line) {
-        OrderRead::Read(order) => given(book, order),
-        OrderRead::Refused(number) => OrderNoted {
-            refusal: number,
-            ready: 0,
-            due: 0,
-            book,
-        },
-    }
-}
-
 // No fault.
 fn faultless() -> Fault
     ensures { λ r. ⌜ r .number ≡ 0 ⌝ }
@@ -128,43 +89,35 @@ fn faultless() -> Fault
     }
 }
 
-// The orders of a list, from the place past its first line on, with the book that this line opens: their hours are stored in two buffers.
-fn read_orders(
-    list: &[u8],
-    begin: usize,
-    fresh: Book,
-    readies: &mut [u32],
-    dues: &mut [u32],
-) -> OrdersRead
+// The orders of a list that has begun: their hours are stored in two buffers.
+fn read_orders(list: &[u8], begun: Progress, readies: &mut [u32], dues: &mut [u32]) -> OrdersRead
     requires { ⌜ length (now list) ≤ longestText ⌝ }
     requires { ⌜ (length (now readies) ≡ mostOrders) × (length (now dues) ≡ mostOrders) ⌝ }
-    requires { ⌜ fresh .taken ≡ 0 ⌝ }
-    ensures { λ r. ⌜ OrdersAre (through noteOrder false 2 begin (record { book = fresh; readies = []; dues = [] }) (linesOf (drop begin (now (list .entry))))) r (now (readies .exit)) (now (dues .exit)) ⌝ }
+    requires { ⌜ (begun .book .taken ≡ 0) × (begun .line ≤ begun .at + 2) ⌝ }
+    ensures { λ r. ⌜ OrdersAre (ordersLeft (now (list .entry)) begun []) r (now (readies .exit)) (now (dues .exit)) ⌝ }
 {
-    let mut at = begin;
-    let mut line: u32 = 2;
+    let mut progress = begun;
     let mut count: usize = 0;
-    let mut book = fresh;
-    while at < list.len() {
-        let end = line_end(list, at);
-        let noted = note_order(book, &list[at..end]);
-        let refusal = noted.refusal;
+    while progress.at < list.len() {
+        let step = next(list, progress);
+        let past = step.progress;
+        let answer = step.answer;
+        let refusal = refusal_in(answer);
         if refusal != 0 {
             let fault = Fault {
                 number: refusal,
                 plan: false,
-                line,
-                from: at,
-                to: end,
+                line: progress.line,
+                from: progress.at,
+                to: past.at,
             };
             return OrdersRead { fault, count };
         }
-        readies[count] = noted.ready;
-        dues[count] = noted.due;
-        book = noted.book;
+        let order = step.order;
+        readies[count] = order.ready;
+        dues[count] = order.due;
         count += 1;
-        line += 1;
-        at = end;
+        progress = past;
     }
     let fault = faultless();
     OrdersRead { fault, count }
@@ -180,19 +133,12 @@ fn checked(load: Load, run: u32, readies: &[u32], dues: &[u32], lines: &[u32]) -
     }
 }
 
-// A plan line, for a list with so many chambers, read and checked up to refusal 14.
-fn note_load(
-    line: &[u8],
-    chambers: u32,
-    run: u32,
-    readies: &[u32],
-    dues: &[u32],
-    lines: &[u32],
-) -> LoadNoted
-    ensures { λ r. ⌜ Loaded chambers run (now (readies .entry)) (now (dues .entry)) (now (lines .entry)) (now (line .entry)) r ⌝ }
+// A plan line, for a list that begins with this book, read and checked up to refusal 14.
+fn note_load(line: &[u8], book: Book, readies: &[u32], dues: &[u32], lines: &[u32]) -> LoadNoted
+    ensures { λ r. ⌜ Loaded (book .chambers) (book .run) (now (readies .entry)) (now (dues .entry)) (now (lines .entry)) (now (line .entry)) r ⌝ }
 {
-    match read_load(line, chambers) {
-        LoadRead::Read(load) => checked(load, run, readies, dues, lines),
+    match read_load(line, book.chambers) {
+        LoadRead::Read(load) => checked(load, book.run, readies, dues, lines),
         LoadRead::Refused(number) => LoadNoted {
             refusal: number,
             load: Load {
@@ -218,80 +164,69 @@ fn plan_fault(number: u32, line: u32, from: usize, to: usize) -> Judgement
     Judgement::Wrong(fault)
 }
 
-// The loads of a plan, for a list with so many chambers, this run and these hours of its orders: each plan line is noted, and the first
-// earlier load that it overlaps ends the search. For each order the plan line on which it stands is kept, 0 for none.
-fn judge_plan(plan: &[u8], chambers: u32, run: u32, readies: &[u32], dues: &[u32]) -> Judgement
-    requires { ⌜ length (now plan) ≤ longestText ⌝ }
-    requires { ⌜ length (now readies) ≤ mostOrders ⌝ }
-    ensures { λ r. ⌜ asJudged r ≡ loadsCounted (now (plan .entry)) (record { chambers = chambers; run = run }) (now (readies .entry)) (now (dues .entry)) ⌝ }
+// The loads of a plan, for a list that begins with this book and has orders of these hours: each plan line is noted, and the first earlier
+// load that it overlaps ends the search. For each order the plan line on which it stands is kept, for each chamber the last plan line with a load
+// in it, and for each plan line the one before it in its chamber, 0 for none: the search goes from one to the next.
+fn judge_plan(plan: &[u8], book: Book, readies: &[u32], dues: &[u32]) -> Judgement
+    requires { ⌜ (length (now readies) ≤ mostOrders) × (length (now dues) ≡ length (now readies)) ⌝ }
+    requires { ⌜ book .chambers ≤ mostChambers ⌝ }
+    ensures { λ r. ⌜ asJudged r ≡ loadsCounted (now (plan .entry)) book (ordersFrom (now (readies .entry)) (now (dues .entry))) ⌝ }
 {
-    let hold = run;
+    let hold = book.hold();
     let mut lines = [0u32; ORDERS];
-    let mut in_chambers = [0u32; ORDERS];
     let mut starts = [0u32; ORDERS];
-    let mut count: usize = 0;
+    let mut befores = [0u32; ORDERS];
+    let mut lasts = [0u32; CHAMBERS];
     let mut line: u32 = 1;
     let mut at: usize = 0;
     'plan: while at < plan.len() {
         let end = line_end(plan, at);
-        let noted = note_load(&plan[at..end], chambers, run, readies, dues, &lines);
+        let noted = note_load(&plan[at..end], book, readies, dues, &lines);
         let number = noted.refusal;
         if number != 0 {
             return plan_fault(number, line, at, end);
         }
         let load = noted.load;
-        let mut earlier: usize = 0;
-        while earlier < count {
-            if overlap(
-                hold,
-                load.chamber,
-                load.start,
-                in_chambers[earlier],
-                starts[earlier],
-            ) {
+        let chamber = (load.chamber - 1) as usize;
+        let last = lasts[chamber];
+        let mut earlier = last;
+        while earlier != 0 {
+            let there = (earlier - 1) as usize;
+            if overlap(hold, load.chamber, load.start, load.chamber, starts[there]) {
                 break 'plan;
             }
-            earlier += 1;
+            earlier = befores[there];
         }
         let order = place_of(load.order);
         lines[order] = line;
-        let place = count;
-        in_chambers[place] = load.chamber;
+        let place = (line - 1) as usize;
         starts[place] = load.start;
-        count += 1;
+        befores[place] = last;
+        lasts[chamber] = line;
         line += 1;
         at = end;
     }
     if plan.len() <= at {
-        let loads = count as u32;
+        let loads = line - 1;
         return Judgement::Right(loads);
     }
     plan_fault(15, line, at, line_end(plan, at))
 }
 
-// The list and the plan, for a list with this first line.
-fn judge_with(list: &[u8], plan: &[u8], heading: Heading) -> Judgement
-    requires { ⌜ (length (now list) ≤ longestText) × (length (now plan) ≤ longestText) ⌝ }
-    requires { ⌜ headingOf (lineAt (now list) 0) ≡ right heading ⌝ }
-    ensures { λ r. ⌜ asJudged r ≡ bothJudged (now (list .entry)) (now (plan .entry)) heading ⌝ }
+// The list that has begun so, and the plan.
+fn judge_with(list: &[u8], plan: &[u8], begun: Progress) -> Judgement
+    requires { ⌜ (opening (now list) ≡ right (begun .book)) × (begun ≡ begunWith (now list) (begun .book) .progress) ⌝ }
+    ensures { λ r. ⌜ asJudged r ≡ bothJudged (now (list .entry)) (now (plan .entry)) (begun .book) ⌝ }
 {
-    let opened = Book::open(heading.chambers, heading.run);
-    let fresh = opened.book;
     let mut readies = [0u32; ORDERS];
     let mut dues = [0u32; ORDERS];
-    let read = read_orders(list, line_end(list, 0), fresh, &mut readies, &mut dues);
+    let read = read_orders(list, begun, &mut readies, &mut dues);
     let fault = read.fault;
     let count = read.count;
     if fault.number != 0 {
         return Judgement::Wrong(fault);
     }
-    judge_plan(
-        plan,
-        heading.chambers,
-        heading.run,
-        &readies[..count],
-        &dues[..count],
-    )
+    judge_plan(plan, begun.book, &readies[..count], &dues[..count])
 }
 
 // A fault of the list.
@@ -312,16 +247,18 @@ fn list_fault(number: u32, line: u32, to: usize) -> Judgement
 pub fn judge(list: &[u8], plan: &[u8]) -> Judgement
     ensures { λ r. ⌜ asJudged r ≡ judged (now (list .entry)) (now (plan .entry)) ⌝ }
 {
-    if LONGEST_TEXT < list.len() {
+    let begun = begin(list);
+    let refusal = begun.refusal;
+    if refusal == 9 {
         return list_fault(9, 0, 0);
     }
     if LONGEST_TEXT < plan.len() {
         return plan_fault(9, 0, 0, 0);
     }
-    match read_heading(line_at(list, 0)) {
-        HeadingRead::Read(heading) => judge_with(list, plan, heading),
-        HeadingRead::Refused(number) => list_fault(number, 1, line_end(list, 0)),
+    if refusal != 0 {
+        return list_fault(refusal, 1, line_end(list, 0));
     }
+    judge_with(list, plan, begun.progress)
 }
 
 // The line at fault, as a part of the text that it stands in.

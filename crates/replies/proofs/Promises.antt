@@ -15,7 +15,11 @@ use Rattle.writer.specs.declared.Written.{Written}
 use Rattle.writer.proofs.Answers as answers
 use Rattle.book.specs.declared.Book.{Book}
 use Rattle.book.specs.declared.Answer.{Answer}
-use Rattle.orders.specs.Answers.{opening, orderLines, answersFrom, yeses, CleanList, begunBy}
+use Rattle.orders.specs.Answers.{bookFor, opening, orderLines, answersFrom, yeses, begunBy}
+use Rattle.lines.specs.declared.Heading.{Heading}
+use Rattle.lines.specs.declared.Order.{Order}
+use Rattle.orders.specs.Meaning.{CleanList}
+use Rattle.orders.proofs.Promises.{clean-exactly}
 use Rattle.replies.specs.Replies.{replyLine, sumLine, replyWritten, startInRange, numbered, repliesBy, replyOf}
 use Rattle.replies.specs.Meaning.{StartsPastLast, GoneThrough}
 use Rattle.replies.proofs.Replying as replying
@@ -41,10 +45,11 @@ replies-counted text book begun = ap length (reply-lines text ∙ ap (repliesBy 
 
 -- the reply to a clean list: a line for each order, and the sum with the number of orders and the number of yeses
 pub clean-reply :
-    (text : List ℕ) (book : Book) → CleanList text book
-    → linesOf (replyOf text)
-    ≡ numbered 2 (answersFrom book (orderLines text)) ++ sumLine (length (orderLines text)) (yeses (answersFrom book (orderLines text))) ∷ []
-clean-reply text book clean = reply-lines text ∙ ap (repliesBy text) (clean .begun) ∙ sums.clean-replies text book clean
+    (text : List ℕ) (heading : Heading) (orders : List Order) → CleanList text heading orders
+    → let answers = answersFrom (bookFor heading) (orderLines text) in
+    linesOf (replyOf text) ≡ numbered 2 answers ++ sumLine (length (orderLines text)) (yeses answers) ∷ []
+clean-reply text heading orders clean =
+    reply-lines text ∙ ap (repliesBy text) (clean-exactly text heading .1 (orders, clean) .0) ∙ sums.clean-replies text heading orders clean
 
 -- 1b, 1c: a reply is refused by 4 exactly when it is a yes with a start above 999,999, whatever the room, then by 7 exactly when its line
 -- is longer than the buffer, and every byte stays; in every other case its line stands at the front, every other byte stays, and its length

@@ -6,10 +6,13 @@ use lib.ListN.{length, length-append}
 use native.Mathlib.Omega.{arith}
 use Rattle.book.specs.declared.Book.{Book}
 use Rattle.book.specs.declared.Answer.{Answer}
-use Rattle.orders.specs.Answers.{orderLines, answersFrom, bookAfter, yeses, CleanList}
+use Rattle.lines.specs.declared.Heading.{Heading}
+use Rattle.lines.specs.declared.Order.{Order}
+use Rattle.orders.specs.Answers.{bookFor, orderLines, answersFrom, bookAfter, yeses}
+use Rattle.orders.specs.Meaning.{CleanList}
 use Rattle.replies.specs.Replies.{sumLine, numbered, repliesFrom}
-use Rattle.orders.proofs.Beginning.{opened-fresh-book}
 use Rattle.orders.proofs.Counting.{all-taken, all-kept, answers-length}
+use Rattle.orders.proofs.Promises.{clean-exactly}
 
 -- every answer has a reply
 numbered-length : (line : ℕ) (answers : List Answer) → length (numbered line answers) ≡ length answers
@@ -24,12 +27,13 @@ replies-length line book lines = simp length-append (omega (arith, numbered-leng
 
 -- the sum of a clean list is the number of its orders and the number of its yeses
 pub clean-replies :
-    (text : List ℕ) (book : Book) → CleanList text book
-    → repliesFrom 2 book (orderLines text)
-    ≡ numbered 2 (answersFrom book (orderLines text)) ++ sumLine (length (orderLines text)) (yeses (answersFrom book (orderLines text))) ∷ []
+    (text : List ℕ) (heading : Heading) (orders : List Order) → CleanList text heading orders
+    → let answers = answersFrom (bookFor heading) (orderLines text) in
+    repliesFrom 2 (bookFor heading) (orderLines text) ≡ numbered 2 answers ++ sumLine (length (orderLines text)) (yeses answers) ∷ []
 unfolding repliesFrom
-clean-replies text book clean =
-    let fresh = opened-fresh-book text book (clean .begun) in
-    let taken : bookAfter book (orderLines text) .taken ≡ length (orderLines text) = omega (arith, all-taken book (orderLines text), clean .unrefused, fresh .0) in
-    let kept : bookAfter book (orderLines text) .kept ≡ yeses (answersFrom book (orderLines text)) = omega (arith, all-kept book (orderLines text), fresh .1) in
+clean-replies text heading orders clean =
+    let book : Book = bookFor heading in
+    let none = clean-exactly text heading .1 (orders, clean) .1 in
+    let taken : bookAfter book (orderLines text) .taken ≡ length (orderLines text) = omega (arith, all-taken book (orderLines text), none) in
+    let kept : bookAfter book (orderLines text) .kept ≡ yeses (answersFrom book (orderLines text)) = omega (arith, all-kept book (orderLines text)) in
     rw (taken, kept)

@@ -1,21 +1,25 @@
--- `judge` looks at both lengths, then at the first line, and then at the rest.
-use mathlib.Core.Path.{_≡_, sym, _∙_}
+-- `judge` looks at how the list begins, at the plan's length, and then at the rest.
+use mathlib.Core.Path.{sym, _∙_}
+use Prim.Native.Nat.{_≤_}
+use lib.ListN.{length}
 use native.Mathlib.Omega.{arith}
-use Rattle.ground.specs.Refusal.{wrong}
-use Rattle.texts.specs.Lines.{lineAt}
-use Rattle.lines.specs.Reading.{headingOf}
-use Rattle.plans.proofs.Texts.{list-too-long, plan-too-long, first-line-faulty, first-line-reads}
 use borrow.Author.Needs.{needs}
+use Rattle.ground.specs.Limits.{longestText}
+use Rattle.plans.proofs.Texts.{list-nine, plan-nine, first-line-faulty, list-begun}
 use Rattle.plans.proofs.judge.Statement.{statement}
 use Rattle.plans.proofs.judge.Tie as tie
+
+begin-requires : tie.Need-begin-requires
+begin-requires c κs = search needs
 
 list-fault-requires : tie.Need-list-fault-requires
 list-fault-requires c κs = search needs
 
 returns : tie.Need-returns
 returns c =
-    let a = c .before .before .before .before .args in
-    c .list-fault .ensures ∙ sym (list-too-long (a .list .now) (a .plan .now) (omega (arith, c .before .if1 .taken)))
+    let k = c .before .before in
+    let a = k .before .before .before .args in
+    c .list-fault .ensures ∙ sym (list-nine (a .list .now) (a .plan .now) (k .begin .result) (k .begin .ensures) (omega (arith, c .before .if1 .taken)))
 
 plan-fault-requires : tie.Need-plan-fault-requires
 plan-fault-requires c κs = search needs
@@ -23,29 +27,10 @@ plan-fault-requires c κs = search needs
 returns-2 : tie.Need-returns-2
 returns-2 c =
     let e = c .before .before in
-    let a = e .before .before .before .args in
+    let k = e .before in
+    let a = k .before .before .before .args in
     c .plan-fault .ensures
-    ∙ sym (plan-too-long (a .list .now) (a .plan .now) (omega (arith, e .if1 .left)) (omega (arith, c .before .if2 .taken)))
-
-line-at-requires : tie.Need-line-at-requires
-line-at-requires c κs = search needs
-
-read-heading-requires : tie.Need-read-heading-requires
-read-heading-requires c κs = search needs
-
-enum-known-heading : tie.Need-enum-known-heading
-enum-known-heading c = search needs
-
-judge-with-requires : tie.Need-judge-with-requires
-judge-with-requires c κs =
-    let k = c .before .before .before in
-    let e = k .before .before in (
-      (omega (arith, e .before .if1 .left), omega (arith, e .if2 .left)),
-      rw (← k .before .line-at .ensures .0, ← k .read-heading .ensures, c .before .heading .given .1),
-    )
-
-enum-known-number : tie.Need-enum-known-number
-enum-known-number c = search needs
+    ∙ sym (plan-nine (a .list .now) (a .plan .now) (k .begin .result) (k .begin .ensures) (e .if1 .left) (omega (arith, c .before .if2 .taken)))
 
 line-end-requires : tie.Need-line-end-requires
 line-end-requires c κs = search needs
@@ -55,36 +40,45 @@ list-fault-requires-2 c κs = search needs
 
 returns-3 : tie.Need-returns-3
 returns-3 c =
-    let start = c .before .before .before .before .before .before .before .before .before .before in
-    let need = judge-with-requires (c .before) (start .κs) in
-    let a = start .args in
-    c .judge-with .ensures ∙ sym (first-line-reads (a .list .now) (a .plan .now) (need .0 .0) (need .0 .1) _ (need .1))
+    let t = c .before .before in
+    let e = t .before .before in
+    let k = e .before in
+    let a = k .before .before .before .args in
+    c .list-fault2 .ensures
+    ∙ rw (c .before .line-end .ensures)
+    (sym
+    (first-line-faulty (a .list .now) (a .plan .now) (k .begin .result) (k .begin .ensures) (e .if1 .left) (omega (arith, t .before .if2 .left))
+    (t .if3 .taken)))
+
+judge-with-requires : tie.Need-judge-with-requires
+judge-with-requires c κs =
+    let e = c .before .before in
+    let k = e .before in
+    let a = k .before .before .before .args in
+    let begun =
+    list-begun (a .list .now) (a .plan .now) (k .begin .result) (k .begin .ensures) (e .if1 .left) (omega (arith, c .before .if2 .left)) (c .if3 .left) in
+    (begun .0, begun .1)
 
 returns-4 : tie.Need-returns-4
 returns-4 c =
-    let n = c .before .before .before in
-    let k = n .before .before in
-    let e = k .before .before in
-    let a = e .before .before .before .before .args in
-    let refused : headingOf (lineAt (a .list .now) 0) ≡ wrong (n .number .given .0 .0) = rw (← k .before .line-at .ensures .0, ← k .read-heading .ensures, n .number .given .1) in
-    c .list-fault2 .ensures
-    ∙ rw (c .before .line-end .ensures)
-    (sym (first-line-faulty (a .list .now) (a .plan .now) (omega (arith, e .before .if1 .left)) (omega (arith, e .if2 .left)) _ refused))
+    let e = c .before .before .before in
+    let k = e .before in
+    let a = k .before .before .before .args in
+    let short : length (a .plan .now) ≤ longestText = omega (arith, c .before .before .if2 .left) in
+    c .judge-with .ensures
+    ∙ sym (list-begun (a .list .now) (a .plan .now) (k .begin .result) (k .begin .ensures) (e .if1 .left) short (c .before .if3 .left) .2)
 
 pub judge-spec : {M : Type 1} → statement M
 judge-spec =
     tie.close
     (tie.spec
+    begin-requires
     list-fault-requires
     returns
     plan-fault-requires
     returns-2
-    line-at-requires
-    read-heading-requires
-    enum-known-heading
-    judge-with-requires
-    enum-known-number
     line-end-requires
     list-fault-requires-2
     returns-3
+    judge-with-requires
     returns-4)

@@ -1,57 +1,61 @@
--- `judge_plan` notes one plan line after another: what is left gives what the whole gives. The search for an overlap keeps that none of the loads before it overlaps.
+-- `judge_plan` notes one plan line after another: what is left gives what the whole gives. The search for an overlap goes back through the
+-- loads of a chamber:
+-- what is left of them overlaps where all of them do.
 use Prim.Native.Nat.{_-_, _≤_, _<_}
 use mathlib.Core.Path.{_≡_, refl, sym, _∙_}
-use mathlib.Core.Bool.{false}
-use lib.ListN.{length, take}
+use mathlib.Core.Logic.{⊎-elim}
+use lib.ListN.{length}
 use native.Mathlib.Omega.{arith}
 use borrow.Author.Needs.{needs}
-use mathlib.Core.Logic.{⊎-elim}
+use Rattle.ground.specs.Limits.{mostChambers, mostOrders}
 use Rattle.texts.specs.Lines.{lineAt}
-use Rattle.plans.specs.Judging.{overlapsAny}
-use Rattle.plans.specs.Steps.{Loaded}
 use Rattle.texts.proofs.WholeText.{moves-on, ends-inside}
+use Rattle.plans.specs.Steps.{Loaded}
 use Rattle.plans.proofs.Loading.{zeros-at}
-use Rattle.plans.proofs.Planning.{Reached, loaded-line, seen-at, reached-room, order-room, reached-top, reached-end, reached-fault, reached-next, search-on, search-found, line-refused, line-overlaps}
+use Rattle.plans.proofs.Chains.{Searched, searched-top}
+use Rattle.plans.proofs.Planning.{Reached, loaded-line, load-chamber, reached-room, order-room, reached-top, reached-end, reached-fault, reached-next, reached-apart, earlier-room, earlier-back, earlier-on, reached-overlap, line-refused}
 use Rattle.plans.proofs.judge_plan.Statement.{statement}
 use Rattle.plans.proofs.judge_plan.Tie as tie
 
 abbrev Inv-loop : tie.InvT-loop
-Inv-loop plan chambers run readies dues hold lines in-chambers starts count line at end number load earlier₀ earlier =
-    (earlier ≤ count) × (overlapsAny run (load .chamber) (load .start) (take earlier in-chambers) (take earlier starts) ≡ false)
+Inv-loop plan book readies dues hold lines starts befores lasts line at end number load chamber last earlier₀ earlier =
+    Searched starts befores hold load earlier₀ earlier
 
 abbrev μ-loop : tie.MeasureT-loop
-μ-loop plan chambers run readies dues hold lines in-chambers starts count line at end number load earlier₀ earlier = count - earlier
+μ-loop plan book readies dues hold lines starts befores lasts line at end number load chamber last earlier₀ earlier = earlier
 
 abbrev Inv-plan : tie.InvT-plan
-Inv-plan plan chambers run readies dues hold lines₀ in-chambers₀ starts₀ count₀ line₀ at₀ lines in-chambers starts count line at =
-    Reached plan (record { chambers = chambers; run = run }) readies dues lines in-chambers starts count line at
+Inv-plan plan book readies dues hold lines₀ starts₀ befores₀ lasts₀ line₀ at₀ lines starts befores lasts line at =
+    Reached plan book readies dues lines starts befores lasts line at
 
 abbrev μ-plan : tie.MeasureT-plan
-μ-plan plan chambers run readies dues hold lines₀ in-chambers₀ starts₀ count₀ line₀ at₀ lines in-chambers starts count line at = length plan - at
-
--- what a noted line is, once it is read
-loaded-at :
-    (c : tie.After-note-load Inv-loop μ-loop Inv-plan μ-plan)
-    → let p = c .before .before .before .before .before in
-    let a = p .before .before .before .before .args in
-    Loaded (a .chambers) (a .run) (a .readies .now) (a .dues .now) (p .plan .lines) (lineAt (a .plan .now) (p .plan .at)) (c .note-load .result)
-loaded-at c =
-    let end = c .before .before .before in
-    let p = end .before .before in
-    loaded-line (p .before .before .before .before .args .plan .now) (p .plan .at) (end .line-end .result) (end .line-end .ensures) (c .note-load .ensures)
+μ-plan plan book readies dues hold lines₀ starts₀ befores₀ lasts₀ line₀ at₀ lines starts befores lasts line at = length plan - at
 
 -- what is known of the plan at a turn
 reached-at :
     (p : tie.At-plan Inv-loop μ-loop Inv-plan μ-plan)
-    → let a = p .before .before .before .before .args in
-    Reached (a .plan .now) (record { chambers = a .chambers; run = a .run }) (a .readies .now) (a .dues .now) (p .plan .lines) (p .plan .in-chambers) (p .plan .starts) (p .plan .count) (p .plan .line) (p .plan .at)
+    → let a = p .before .before .before .before .before .args in
+    Reached (a .plan .now) (a .book) (a .readies .now) (a .dues .now) (p .plan .lines) (p .plan .starts) (p .plan .befores) (p .plan .lasts) (p .plan .line) (p .plan .at)
 reached-at p = p .plan .inv
+
+-- what a noted line is, once it is read
+loaded-at :
+    (n : tie.After-note-load Inv-loop μ-loop Inv-plan μ-plan)
+    → let p = n .before .before .before .before .before in
+    let a = p .before .before .before .before .before .args in
+    Loaded (a .book .chambers) (a .book .run) (a .readies .now) (a .dues .now) (p .plan .lines) (lineAt (a .plan .now) (p .plan .at)) (n .note-load .result)
+loaded-at n =
+    let end = n .before .before .before in
+    let p = end .before .before in
+    loaded-line (p .before .before .before .before .before .args .plan .now) (p .plan .at) (end .line-end .result) (end .line-end .ensures) (n .note-load .ensures)
+
+hold-requires : tie.Need-hold-requires Inv-loop μ-loop Inv-plan μ-plan
+hold-requires c κs = search needs
 
 plan-holds : tie.Need-plan-holds Inv-loop μ-loop Inv-plan μ-plan
 plan-holds c =
-    let start = c .before .before .before in
-    reached-top (start .args .plan .now) (record { chambers = start .args .chambers; run = start .args .run }) (start .args .readies .now) (start .args .dues .now)
-    _ _ _ (start .pre .0) (refl, refl, refl) (zeros-at 512)
+    let a = c .before .before .before .before .args in
+    reached-top (a .plan .now) (a .book) (a .readies .now) (a .dues .now) _ _ _ _ (refl, refl, refl, refl) (zeros-at mostOrders) (zeros-at mostChambers)
 
 line-end-requires : tie.Need-line-end-requires Inv-loop μ-loop Inv-plan μ-plan
 line-end-requires c κs = search needs
@@ -59,7 +63,8 @@ line-end-requires c κs = search needs
 -- the line at the place is a part of the plan
 inside :
     (k : tie.After-line-end Inv-loop μ-loop Inv-plan μ-plan)
-    → (k .before .before .plan .at < k .line-end .result) × (k .line-end .result ≤ length (k .before .before .before .before .before .before .args .plan .now))
+    → (k .before .before .plan .at < k .line-end .result)
+    × (k .line-end .result ≤ length (k .before .before .before .before .before .before .before .args .plan .now))
 inside k = rw (k .line-end .ensures) (moves-on _ _ (k .before .plan-test .taken), ends-inside _ _ (k .before .plan-test .taken))
 
 sub-note-load : tie.Need-sub-note-load Inv-loop μ-loop Inv-plan μ-plan
@@ -82,104 +87,165 @@ plan-fault-requires c κs = search needs
 
 returns : tie.Need-returns Inv-loop μ-loop Inv-plan μ-plan
 returns c =
-    let k = c .before .before in
-    let p = k .before .before .before .before .before in
-    let a = p .before .before .before .before .args in
+    let n = c .before .before in
+    let p = n .before .before .before .before .before in
+    let start = p .before .before .before .before .before in
+    let a = start .args in
     c .plan-fault .ensures
-    ∙ rw (k .before .before .before .line-end .ensures)
+    ∙ rw (n .before .before .before .line-end .ensures)
     (sym
-    (reached-fault (reached-at p) (k .before .before .before .before .plan-test .taken) _
-    (line-refused (record { chambers = a .chambers; run = a .run }) (a .readies .now) (a .dues .now) (p .plan .lines) (seen-at (reached-at p)) (reached-at p .marked) (lineAt (a .plan .now) (p .plan .at)) (k .note-load .result) (loaded-at k) (λ none. omega (arith, c .before .if1 .taken)))))
+    (reached-fault (reached-at p) (n .before .before .before .before .plan-test .taken) _
+    (line-refused (a .book) (a .readies .now) (a .dues .now) (p .plan .lines) (start .pre .0 .1) (reached-at p .seen) (reached-at p .marked) (lineAt (a .plan .now) (p .plan .at)) (n .note-load .result) (loaded-at n) (λ none. omega (arith, c .before .if1 .taken)))))
+
+-- the load has no refusal up to 14, and its chamber is one of those that there can be
+chamber-at :
+    (s : tie.After-struct-known Inv-loop μ-loop Inv-plan μ-plan)
+    → let load = s .before .before .before .note-load .result .load in (1 ≤ load .chamber) × (load .chamber ≤ mostChambers)
+chamber-at s =
+    let n = s .before .before .before in
+    let p = n .before .before .before .before .before in
+    let pre = p .before .before .before .before .before .pre in
+    load-chamber (reached-at p) (pre .0 .1) (pre .0 .0) (pre .1) (n .note-load .result) (loaded-at n) (omega (arith, s .before .before .if1 .left))
+
+sub-chamber : tie.Need-sub-chamber Inv-loop μ-loop Inv-plan μ-plan
+sub-chamber c = chamber-at c .0
+
+cast-chamber : tie.Need-cast-chamber Inv-loop μ-loop Inv-plan μ-plan
+cast-chamber c = omega (arith, chamber-at c .1)
+
+mul-last : tie.Need-mul-last Inv-loop μ-loop Inv-plan μ-plan
+mul-last c = omega (arith, chamber-at c .1)
+
+array-read-last : tie.Need-array-read-last Inv-loop μ-loop Inv-plan μ-plan
+array-read-last c = omega (arith, chamber-at c .0, chamber-at c .1)
 
 loop-holds : tie.Need-loop-holds Inv-loop μ-loop Inv-plan μ-plan
-unfolding overlapsAny
-loop-holds c = (omega arith, refl)
+loop-holds c = searched-top _ _ _ (c .before .before .before .note-load .result .load) _
+
+-- the line that the search has come to is one of those seen
+earlier-at : (c : tie.In-loop Inv-loop μ-loop Inv-plan μ-plan) → (1 ≤ c .before .loop .earlier) × (c .before .loop .earlier - 1 < mostOrders)
+earlier-at c =
+    let s = c .before .before in
+    let n = s .before .before .before in
+    let p = n .before .before .before .before .before in
+    let pre = p .before .before .before .before .before .pre in
+    earlier-room (reached-at p) (pre .0 .1) (pre .0 .0) (pre .1) (n .note-load .result) (loaded-at n) (omega (arith, s .before .before .if1 .left))
+    _ (c .before .loop .earlier) (p .before .hold .ensures) (c .before .loop .inv) (c .loop-test .taken)
+
+sub-there : tie.Need-sub-there Inv-loop μ-loop Inv-plan μ-plan
+sub-there c = earlier-at c .0
+
+cast-there : tie.Need-cast-there Inv-loop μ-loop Inv-plan μ-plan
+cast-there c = omega (arith, earlier-at c .1)
 
 mul-overlap : tie.Need-mul-overlap Inv-loop μ-loop Inv-plan μ-plan
-mul-overlap c = search needs
+mul-overlap c = omega (arith, earlier-at c .1)
 
 array-read-overlap : tie.Need-array-read-overlap Inv-loop μ-loop Inv-plan μ-plan
-array-read-overlap c = search needs
-
-mul-overlap-2 : tie.Need-mul-overlap-2 Inv-loop μ-loop Inv-plan μ-plan
-mul-overlap-2 c = search needs
-
-array-read-overlap-2 : tie.Need-array-read-overlap-2 Inv-loop μ-loop Inv-plan μ-plan
-array-read-overlap-2 c = search needs
+array-read-overlap c = omega (arith, earlier-at c .1)
 
 overlap-requires : tie.Need-overlap-requires Inv-loop μ-loop Inv-plan μ-plan
 overlap-requires c κs = search needs
 
-add-earlier : tie.Need-add-earlier Inv-loop μ-loop Inv-plan μ-plan
-add-earlier c = search needs
+mul-earlier : tie.Need-mul-earlier Inv-loop μ-loop Inv-plan μ-plan
+mul-earlier c = omega (arith, earlier-at (c .before .before) .1)
+
+array-read-earlier : tie.Need-array-read-earlier Inv-loop μ-loop Inv-plan μ-plan
+array-read-earlier c = omega (arith, earlier-at (c .before .before) .1)
 
 loop-less : tie.Need-loop-less Inv-loop μ-loop Inv-plan μ-plan
-loop-less c = search needs
+loop-less c =
+    let l = c .before .before in
+    let s = l .before .before in
+    let n = s .before .before .before in
+    let p = n .before .before .before .before .before in
+    let pre = p .before .before .before .before .before .pre in
+    earlier-back (reached-at p) (pre .0 .1) (pre .0 .0) (pre .1) (n .note-load .result) (loaded-at n) (omega (arith, s .before .before .if1 .left))
+    _ (l .before .loop .earlier) (p .before .hold .ensures) (l .before .loop .inv) (l .loop-test .taken)
 
 loop-again : tie.Need-loop-again Inv-loop μ-loop Inv-plan μ-plan
 loop-again c =
-    let l = c .before .before .before in
-    let p = l .before .before .before .before .before .before .before .before in
-    (omega arith, search-on _ _ _ (p .plan .in-chambers) (p .plan .starts) (l .loop .earlier) (omega (arith, reached-at p .few, reached-at p .sized .1)) (omega (arith, reached-at p .few, reached-at p .sized .2)) (l .loop .inv .1) (sym (c .before .overlap .ensures) ∙ c .if2 .left))
+    let l = c .before .before in
+    let s = l .before .before in
+    let n = s .before .before .before in
+    let p = n .before .before .before .before .before in
+    let pre = p .before .before .before .before .before .pre in
+    earlier-on (reached-at p) (pre .0 .1) (pre .0 .0) (pre .1) (n .note-load .result) (loaded-at n) (omega (arith, s .before .before .if1 .left))
+    _ (l .before .loop .earlier) (p .before .hold .ensures) (l .before .loop .inv) (l .loop-test .taken) (sym (c .before .overlap .ensures) ∙ c .if2 .left)
 
 place-of-requires : tie.Need-place-of-requires Inv-loop μ-loop Inv-plan μ-plan
 place-of-requires c κs = search needs
 
 -- there is room for the load, and for the line of its order
-room-at : (c : tie.After-place-of Inv-loop μ-loop Inv-plan μ-plan) → (c .before .before .before .before .before .before .before .before .before .before .plan .count < 512) × (c .place-of .result < 512)
+room-at :
+    (c : tie.After-place-of Inv-loop μ-loop Inv-plan μ-plan)
+    → let line = c .before .before .before .before .before .before .before .before .before .before .before .plan .line in
+    (1 ≤ line) × (line ≤ mostOrders) × (c .place-of .result < mostOrders)
 room-at c =
-    let k = c .before .before .before .before .before in
-    let p = k .before .before .before .before .before in
-    let start = p .before .before .before .before in
-    let none : k .note-load .result .refusal ≡ 0 = omega (arith, c .before .before .before .before .if1 .left) in (
-      omega (arith, start .pre .1, reached-room (reached-at p) (start .pre .1) (k .note-load .result) (loaded-at k) none),
-      omega (arith, c .place-of .ensures, order-room (reached-at p) (start .pre .1) (k .note-load .result) (loaded-at k) none),
+    let s = c .before .before .before in
+    let n = s .before .before .before in
+    let p = n .before .before .before .before .before in
+    let pre = p .before .before .before .before .before .pre in
+    let none : n .note-load .result .refusal ≡ 0 = omega (arith, s .before .before .if1 .left) in (
+      omega (arith, reached-at p .counted),
+      omega (arith, pre .0 .0, reached-room (reached-at p) (pre .0 .1) (pre .0 .0) (pre .1) (n .note-load .result) (loaded-at n) none),
+      omega (arith, c .place-of .ensures, order-room (reached-at p) (pre .0 .1) (pre .0 .0) (pre .1) (n .note-load .result) (loaded-at n) none),
     )
 
 mul-lines : tie.Need-mul-lines Inv-loop μ-loop Inv-plan μ-plan
-mul-lines c = omega (arith, room-at c .1)
+mul-lines c = omega (arith, room-at c .2)
 
 array-write-lines : tie.Need-array-write-lines Inv-loop μ-loop Inv-plan μ-plan
-array-write-lines c = omega (arith, room-at c .1)
+array-write-lines c = omega (arith, room-at c .2)
 
-mul-in-chambers : tie.Need-mul-in-chambers Inv-loop μ-loop Inv-plan μ-plan
-mul-in-chambers c = omega (arith, room-at c .0)
+sub-place : tie.Need-sub-place Inv-loop μ-loop Inv-plan μ-plan
+sub-place c = room-at c .0
 
-array-write-in-chambers : tie.Need-array-write-in-chambers Inv-loop μ-loop Inv-plan μ-plan
-array-write-in-chambers c = omega (arith, room-at c .0)
+cast-place : tie.Need-cast-place Inv-loop μ-loop Inv-plan μ-plan
+cast-place c = omega (arith, room-at c .1)
 
 mul-starts : tie.Need-mul-starts Inv-loop μ-loop Inv-plan μ-plan
-mul-starts c = omega (arith, room-at c .0)
+mul-starts c = omega (arith, room-at c .1)
 
 array-write-starts : tie.Need-array-write-starts Inv-loop μ-loop Inv-plan μ-plan
-array-write-starts c = omega (arith, room-at c .0)
+array-write-starts c = omega (arith, room-at c .0, room-at c .1)
 
-add-count : tie.Need-add-count Inv-loop μ-loop Inv-plan μ-plan
-add-count c = search needs
+mul-befores : tie.Need-mul-befores Inv-loop μ-loop Inv-plan μ-plan
+mul-befores c = omega (arith, room-at c .1)
+
+array-write-befores : tie.Need-array-write-befores Inv-loop μ-loop Inv-plan μ-plan
+array-write-befores c = omega (arith, room-at c .0, room-at c .1)
+
+mul-lasts : tie.Need-mul-lasts Inv-loop μ-loop Inv-plan μ-plan
+mul-lasts c = omega (arith, chamber-at (c .before .before .before) .1)
+
+array-write-lasts : tie.Need-array-write-lasts Inv-loop μ-loop Inv-plan μ-plan
+array-write-lasts c = omega (arith, chamber-at (c .before .before .before) .0, chamber-at (c .before .before .before) .1)
 
 add-line : tie.Need-add-line Inv-loop μ-loop Inv-plan μ-plan
-add-line c = omega (arith, reached-at (c .before .before .before .before .before .before .before .before .before .before) .numbered .1)
+add-line c = omega (arith, room-at c .1)
 
 plan-less : tie.Need-plan-less Inv-loop μ-loop Inv-plan μ-plan
-plan-less c = omega (arith, inside (c .before .before .before .before .before .before .before .before) .0)
+plan-less c = omega (arith, inside (c .before .before .before .before .before .before .before .before .before) .0)
 
 plan-again : tie.Need-plan-again Inv-loop μ-loop Inv-plan μ-plan
 plan-again c =
-    let l = c .before in
-    let k = l .before .before .before .before in
-    let p = k .before .before .before .before .before in
-    let start = p .before .before .before .before in
-    let all : l .before .loop .earlier ≡ p .plan .count = omega arith in
-    rw (k .before .before .before .line-end .ensures, c .place-of .ensures)
-    (reached-next (reached-at p) (start .pre .1) (k .note-load .result) (loaded-at k) (omega (arith, l .before .before .before .if1 .left)) (k .before .before .before .before .plan-test .taken)
-    (rw all at (l .before .loop .inv .1)))
+    let l = c .before .before in
+    let s = l .before in
+    let n = s .before .before .before in
+    let p = n .before .before .before .before .before in
+    let pre = p .before .before .before .before .before .pre in
+    let none : n .note-load .result .refusal ≡ 0 = omega (arith, s .before .before .if1 .left) in
+    rw (n .before .before .before .line-end .ensures, c .place-of .ensures)
+    (reached-next (reached-at p) (pre .0 .1) (pre .0 .0) (pre .1) (n .note-load .result) (loaded-at n) none (n .before .before .before .before .plan-test .taken)
+    (reached-apart (reached-at p) (pre .0 .1) (pre .0 .0) (pre .1) (n .note-load .result) (loaded-at n) none _ (l .loop .earlier) (p .before .hold .ensures) (l .loop .inv)
+    (c .before .loop-test .left)))
 
-cast-loads : tie.Need-cast-loads Inv-loop μ-loop Inv-plan μ-plan
-cast-loads c = omega (arith, reached-at (c .before .before) .few, c .before .before .before .before .before .before .pre .1)
+sub-loads : tie.Need-sub-loads Inv-loop μ-loop Inv-plan μ-plan
+sub-loads c = omega (arith, reached-at (c .before .before) .counted)
 
 returns-2 : tie.Need-returns-2 Inv-loop μ-loop Inv-plan μ-plan
-returns-2 c =
-    let p = c .before .before in sym (reached-end (reached-at p) (omega arith))
+returns-2 c = sym (reached-end (reached-at (c .before .before)) (omega arith))
 
 line-end-requires-2 : tie.Need-line-end-requires-2 Inv-loop μ-loop Inv-plan μ-plan
 line-end-requires-2 c κs = search needs
@@ -191,15 +257,16 @@ returns-3 : tie.Need-returns-3 Inv-loop μ-loop Inv-plan μ-plan
 returns-3 c =
     let e = c .before .before in
     let p = e .before .before in
-    let a = p .before .before .before .before .args in
+    let start = p .before .before .before .before .before in
+    let pre = start .pre in
     ⊎-elim (λ over. absurd (omega (arith, over .left, e .if3 .left)))
     (λ w.
     c .plan-fault2 .ensures
     ∙ rw (c .before .line-end2 .ensures)
     (sym
-    (reached-fault (reached-at p) (w .0 .taken) 15
-    (line-overlaps (record { chambers = a .chambers; run = a .run }) (a .readies .now) (a .dues .now) (p .plan .lines) (seen-at (reached-at p)) (reached-at p .marked) (lineAt (a .plan .now) (p .plan .at)) (w .4 .result) (loaded-line (a .plan .now) (p .plan .at) (w .1 .result) (w .1 .ensures) (w .4 .ensures)) (omega (arith, w .5 .left))
-    (search-found _ _ _ (p .plan .in-chambers) (p .plan .starts) (w .7 .earlier) (omega (arith, w .8 .taken, reached-at p .few, reached-at p .sized .1)) (omega (arith, w .8 .taken, reached-at p .few, reached-at p .sized .2)) (p .plan .count) (w .8 .taken) (sym (w .9 .ensures) ∙ w .10 .taken))))))
+    (reached-overlap (reached-at p) (pre .0 .1) (pre .0 .0) (pre .1) (w .4 .result)
+    (loaded-line (start .args .plan .now) (p .plan .at) (w .1 .result) (w .1 .ensures) (w .4 .ensures)) (omega (arith, w .5 .left))
+    _ (w .8 .earlier) (p .before .hold .ensures) (w .8 .inv) (w .9 .taken) (w .0 .taken) (sym (w .10 .ensures) ∙ w .11 .taken))))
     (e .before .plan-test .came)
 
 pub judge-plan-spec : {M : Type 1} → statement M
@@ -210,6 +277,7 @@ judge-plan-spec =
     μ-loop
     Inv-plan
     μ-plan
+    hold-requires
     plan-holds
     line-end-requires
     sub-note-load
@@ -219,27 +287,35 @@ judge-plan-spec =
     note-load-requires
     plan-fault-requires
     returns
+    sub-chamber
+    cast-chamber
+    mul-last
+    array-read-last
     loop-holds
+    sub-there
+    cast-there
     mul-overlap
     array-read-overlap
-    mul-overlap-2
-    array-read-overlap-2
     overlap-requires
-    add-earlier
+    mul-earlier
+    array-read-earlier
     loop-less
     loop-again
     place-of-requires
     mul-lines
     array-write-lines
-    mul-in-chambers
-    array-write-in-chambers
+    sub-place
+    cast-place
     mul-starts
     array-write-starts
-    add-count
+    mul-befores
+    array-write-befores
+    mul-lasts
+    array-write-lasts
     add-line
     plan-less
     plan-again
-    cast-loads
+    sub-loads
     returns-2
     line-end-requires-2
     plan-fault-requires-2

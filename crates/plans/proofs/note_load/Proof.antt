@@ -24,7 +24,7 @@ returns : tie.Need-returns
 returns c =
     let m = c .before .before in
     let k = m .before .before in
-    let reads : loadOf (k .before .before .before .before .before .args .chambers) (k .before .before .before .before .before .args .line .now) ≡ right (m .load .given .0 .0) = rw (← k .read-load .ensures, m .load .given .1) in
+    let reads : loadOf (k .before .before .before .before .before .args .book .chambers) (k .before .before .before .before .before .args .line .now) ≡ right (m .load .given .0 .0) = rw (← k .read-load .ensures, m .load .given .1) in
     let made = c .checked .ensures in
     record {
       refused = rw reads (ap (λ (noted : LoadNoted). noted .refusal) made);
@@ -35,7 +35,7 @@ returns-2 : tie.Need-returns-2
 returns-2 c =
     let m = c .before in
     let k = m .before .before in
-    let refused : loadOf (k .before .before .before .before .before .args .chambers) (k .before .before .before .before .before .args .line .now) ≡ wrong (m .number .given .0 .0) = rw (← k .read-load .ensures, m .number .given .1) in
+    let refused : loadOf (k .before .before .before .before .before .args .book .chambers) (k .before .before .before .before .before .args .line .now) ≡ wrong (m .number .given .0 .0) = rw (← k .read-load .ensures, m .number .given .1) in
     record { refused = rw refused; load = λ none. absurd (load-refused _ _ _ refused none) }
 
 pub note-load-spec : {M : Type 1} → statement M

@@ -1,10 +1,7 @@
--- Laws of what holds of each of several things, of each two of them, and of one of them. Assumes nothing.
+-- Laws of what holds of each of several things, and of each two of them. Assumes nothing.
 use mathlib.Core.Path.{_≡_, refl, ap, _∙_}
-use mathlib.Core.Bool.{Bool, true, false, _||_}
-use mathlib.Core.Logic.{_↔_}
 use mathlib.Core.List.{List, [], _∷_, _++_, append-assoc, nil≢cons, head-eq-of-cons-eq, tail-eq-of-cons-eq}
-use Rattle.ground.proofs.Tests.{by-test, never-both, not-met}
-use Rattle.plans.specs.Meaning.{Each, EachTwo, Some}
+use Rattle.orders.specs.Meaning.{Each, EachTwo}
 
 -- nothing stands among none
 pub never-among : {A : Type 0} (front : List A) (one : A) (rest : List A) → [] ≡ front ++ one ∷ rest → ⊥
@@ -79,44 +76,3 @@ module _ {A : Type 0} {Holds : A → A → Type 0} where
   pub two-rest : {first : A} {all : List A} → EachTwo Holds (first ∷ all) → EachTwo Holds all
   two-rest {first} two =
       record { holds = λ front earlier middle later rest e. two .holds (first ∷ front) earlier middle later rest (ap (λ tail. first ∷ tail) e) }
-
--- A test that is made of several things until it holds.
-module _ {A : Type 0} (test : A → Bool) where
-  -- whether it holds of any
-  unfoldable pub anyOf : List A → Bool
-  anyOf [] = false
-  anyOf (one ∷ all) = test one || anyOf all
-
-module _ {A : Type 0} (test : A → Bool) (Holds : A → Type 0) (exactly : (one : A) → (test one ≡ true) ↔ Holds one) where
-  -- it holds where the test holds of one of them
-  some-first : {first : A} {all : List A} → Holds first → Some Holds (first ∷ all)
-  some-first {first} {all} holds = record { front = []; one = first; rest = all; among = refl; holds = holds }
-
-  -- or of one behind the first
-  some-rest : {first : A} {all : List A} → Some Holds all → Some Holds (first ∷ all)
-  some-rest {first} {all} some =
-      record { front = first ∷ some .front; one = some .one; rest = some .rest; among = ap (λ tail. first ∷ tail) (some .among); holds = some .holds }
-
-  -- where it holds of any, it holds of one of them
-  pub any-some : (all : List A) → anyOf test all ≡ true → Some Holds all
-  unfolding anyOf
-  any-some [] met = absurd (never-both met refl)
-  any-some (one ∷ all) met =
-      by-test (test one) (λ here. some-first (exactly one .0 here)) (λ other. some-rest (any-some all (rw other at met)))
-
-  -- and fails where it fails of each
-  pub any-none : (all : List A) → anyOf test all ≡ false → Each (λ one. Holds one → ⊥) all
-  unfolding anyOf
-  any-none [] unmet = each-none
-  any-none (one ∷ all) unmet =
-      by-test (test one) (λ here. absurd (never-both refl (rw here at unmet)))
-      (λ other. each-before (λ holds. never-both (exactly one .1 holds) other) (any-none all (rw other at unmet)))
-
-  -- and back
-  pub some-any : {all : List A} → Some Holds all → anyOf test all ≡ true
-  some-any {all} some =
-      by-test (anyOf test all) (λ met. met) (λ unmet. absurd (any-none all unmet .holds (some .front) (some .one) (some .rest) (some .among) (some .holds)))
-
-  -- and back
-  pub none-any : {all : List A} → Each (λ one. Holds one → ⊥) all → anyOf test all ≡ false
-  none-any {all} none = not-met (λ met. let some = any-some all met in none .holds (some .front) (some .one) (some .rest) (some .among) (some .holds))
