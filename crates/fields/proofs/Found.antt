@@ -3,8 +3,8 @@ use Prim.Native.Nat.{ℕ, zero, suc, _+_, _-_, _≤_, _<_}
 use mathlib.Core.Path.{_≡_, refl, sym, ap, _∙_}
 use mathlib.Core.Bool.{Bool, true, false, cond, _&&_}
 use mathlib.Core.List.{List, [], _∷_, _++_, append-assoc}
-use mathlib.Core.Logic.{_↔_}
-use lib.ListN.{length, getD, set, take, drop, length-append, length-set, length-drop}
+use mathlib.Core.Logic.{_↔_, _⊎_, inl, inr}
+use lib.ListN.{length, getD, set, drop, length-append, length-set, length-drop}
 use lib.Seq.{getD-set-same, getD-set-other, take-append-seam, drop-at}
 use lib.Dec.{ltb}
 use native.Mathlib.Omega.{arith}
@@ -17,9 +17,8 @@ use Rattle.fields.specs.Fields.{isEnded, fieldsOf, shapeOf}
 use Rattle.fields.specs.Meaning.{tabbed, Splits, HasFields}
 use Rattle.fields.specs.Cutting.{mostFields, noCut, ended, cutOf, endOf, startOf, fieldAt}
 use Rattle.fields.specs.declared.Cut.{Cut}
-use Rattle.fields.proofs.Splitting.{some-field}
 use Rattle.fields.proofs.Splits.{splits-exactly, splits-ended}
-use Rattle.fields.proofs.Cutting.{endsFrom, allEnded, cut-from, starts-first, starts-next, starts-behind, part-there, no-part}
+use Rattle.fields.proofs.Cutting.{endsFrom, allEnded, cut-from, starts-first, starts-next, part-there, no-part}
 
 -- Ends that are kept one after another.
 -- each counts
@@ -161,12 +160,14 @@ module _ (line : List ℕ) (fields : List (List ℕ)) (splits : Splits line fiel
       let size : end - start ≡ length field = omega arith in
       sym (part .0) ∙ rw (size, there .stands) (take-append-seam field (there .mark ∷ there .tail))
 
-no-end : (cut : Cut) (place : ℕ) → cut .count ≤ place → endOf cut place ≡ 0
+no-end : (cut : Cut) (place : ℕ) → (cut .count ≤ place) ⊎ (mostFields ≤ place) → endOf cut place ≡ 0
 unfolding endOf
-no-end cut place past = rw (le-ltb place (cut .count) past)
+no-end cut place (inl past) = rw (le-ltb place (cut .count) past)
+no-end cut place (inr unkept) =
+    by-test (ltb place (cut .count)) (λ inside. rw (inside, le-ltb place mostFields unkept)) (λ outside. rw outside)
 
--- past the count of a cut there is no field
-pub field-none : (line : List ℕ) (cut : Cut) (place : ℕ) → cut .count ≤ place → fieldAt line cut place ≡ []
+-- past the count of a cut, or past the ends that it keeps, there is no field
+pub field-none : (line : List ℕ) (cut : Cut) (place : ℕ) → (cut .count ≤ place) ⊎ (mostFields ≤ place) → fieldAt line cut place ≡ []
 field-none line cut zero past =
     sym (part-there line cut zero 0 0 (sym (starts-first cut)) (sym (no-end cut zero past)) (omega arith) (omega arith) .0)
 field-none line cut (suc place) past =

@@ -1,13 +1,13 @@
 -- What this room promises, of the contracts themselves and of the definitions that they cite. Each is a line over a law of this folder. Assumes nothing.
 use Prim.Native.Nat.{ℕ, _+_, _≤_, _<_}
-use mathlib.Core.Path.{_≡_, refl, sym, ap, _∙_}
+use mathlib.Core.Path.{_≡_, refl, sym, _∙_}
 use mathlib.Core.Bool.{true}
 use mathlib.Core.List.{List, []}
-use mathlib.Core.Logic.{_↔_}
+use mathlib.Core.Logic.{_↔_, _⊎_}
 use lib.ListN.{length, getD, take, drop}
 use contract.Lifetimes.{Lfts}
 use denote.Ref.{RefT}
-use Rattle.ground.specs.Refusal.{right}
+use Rattle.ground.specs.Refusal.{wrong, right}
 use Rattle.ground.specs.Outcome.{Single}
 use Rattle.ground.proofs.Outcome.{single-value}
 use Rattle.fields.specs.Fields.{tab, isEnded, fieldsOf, sameBytes, shapeOf}
@@ -38,6 +38,10 @@ pub has-fields :
     → (shapeOf least most line ≡ right tt) ↔ ((count : ℕ) × HasFields count line × (least ≤ count) × (count ≤ most))
 has-fields = splits.has-fields
 
+-- 1: and is refused by that number otherwise
+pub shape-ways : (least most : ℕ) (line : List ℕ) → (shapeOf least most line ≡ right tt) ⊎ (shapeOf least most line ≡ wrong 1)
+shape-ways = splits.shape-ways
+
 -- two texts are the same byte for byte exactly when they are one
 pub same-exactly : (one other : List ℕ) → (sameBytes one other ≡ true) ↔ (one ≡ other)
 same-exactly = words.same-exactly
@@ -61,10 +65,10 @@ pub field-exactly :
 field-exactly κs ks line text cut place after later was-cut given fields split inside room =
     given .0 ∙ rw was-cut (found.field-found (line .now) fields split place inside room)
 
--- past the count of a cut there is no field
+-- past the count of a cut, or past five, there is no field
 pub field-none :
     (κs : Lfts 1) (line : RefT (List ℕ)) (cut : Cut) (place : ℕ) (text : RefT (List ℕ)) (after : _)
-    → field.Learnt κs (line, (cut, (place, tt))) text after → cut .count ≤ place → text .now ≡ []
+    → field.Learnt κs (line, (cut, (place, tt))) text after → (cut .count ≤ place) ⊎ (5 ≤ place) → text .now ≡ []
 field-none κs line cut place text after given past = given .0 ∙ found.field-none (line .now) cut place past
 
 -- a field lies in its line, whatever the cut: in the same block, from a place of the line on, and its bytes are the line's from there

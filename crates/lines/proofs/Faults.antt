@@ -10,8 +10,7 @@ use Rattle.ground.specs.Refusal.{Read, wrong, right, _>>=_, _>>_}
 use Rattle.ground.specs.Limits.{lastHour, mostChambers, longestRun, lastPlain}
 use Rattle.ground.proofs.Refusal.{never-right, same-right, same-wrong}
 use Rattle.fields.specs.Fields.{fieldsOf, shapeOf}
-use Rattle.fields.proofs.Promises.{splits-exactly, has-fields}
-use Rattle.fields.proofs.Splits.{shape-ways}
+use Rattle.fields.proofs.Promises.{splits-exactly, has-fields, shape-ways}
 use Rattle.lines.specs.Reading.{lastGrower, readAll, lineOf, headingReaders, orderReaders, loadReaders, headingOf, orderOf, loadOf}
 use Rattle.lines.specs.Meaning.{Kind, the-word, FieldReads, AllRead, no-more, one-more, FirstFault, here, later, Shaped, LineReads, LineMakes, LineFault, misshapen, at-field, headingKinds, orderKinds, loadKinds, HeadingReads, HeadingFault, OrderReads, OrderFault, LoadReads, LoadFault}
 use Rattle.lines.specs.declared.Heading.{Heading}

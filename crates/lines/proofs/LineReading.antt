@@ -1,6 +1,6 @@
 -- Laws of reading a line by its cut: what its fields come to, read one by one from the left. Assumes nothing.
 use Prim.Native.Nat.{ℕ, suc, _+_, _≤_, _<_}
-use mathlib.Core.Path.{_≡_, refl, sym, ap, _∙_}
+use mathlib.Core.Path.{_≡_, refl, ap, _∙_}
 use mathlib.Core.Bool.{Bool, true, false, cond}
 use mathlib.Core.List.{List, [], _∷_, map}
 use lib.ListN.{length, getD, drop, drop-of-length-le}
@@ -8,7 +8,7 @@ use lib.Seq.{drop-cons}
 use lib.Dec.{eqb}
 use native.Mathlib.Omega.{arith}
 use borrow.Author.Tests.{eqb-true, ne-eqb, eqb-false}
-use Rattle.ground.specs.Refusal.{Read, wrong, right, check, _>>=_, _>>_}
+use Rattle.ground.specs.Refusal.{Read, wrong, right, _>>=_, _>>_}
 use Rattle.ground.specs.Range.{within}
 use Rattle.ground.proofs.Tests.{by-test}
 use Rattle.ground.proofs.Range.{within-low, within-high}

@@ -1,5 +1,4 @@
 -- `end_of` is the end that was kept, where there is one.
-use mathlib.Core.Bool.{_&&_, false}
 use native.Mathlib.Omega.{arith}
 use borrow.Author.Needs.{needs}
 use borrow.Author.Tests.{lt-ltb, le-ltb}

@@ -1,13 +1,12 @@
 -- `read_load` refuses a line that has not its shape, and reads the fields of any other by the cut: the first refusal from the left is the answer, or order, chamber and start.
-use mathlib.Core.Path.{_≡_, refl, sym, ap, _∙_}
+use mathlib.Core.Path.{_≡_, sym, ap, _∙_}
 use mathlib.Core.List.{[], _∷_}
 use native.Mathlib.Omega.{arith}
 use borrow.Author.Needs.{needs}
 use borrow.Author.Tests.{eq-eqb, ne-eqb, not-true, not-false}
 use Rattle.ground.specs.Limits.{lastHour, lastPlain}
-use Rattle.fields.specs.Cutting.{fieldAt}
 use Rattle.lines.specs.Reading.{lineOf, plainWithin, hourWithin, loadReaders, loadOf}
-use Rattle.lines.proofs.LineReading.{outcome, refusalFrom, WereRead, done, next, line-misshapen, line-read}
+use Rattle.lines.proofs.LineReading.{outcome, refusalFrom, done, next, line-misshapen, line-read}
 use Rattle.lines.proofs.read_load.Statement.{statement}
 use Rattle.lines.proofs.read_load.Tie as tie
 
