@@ -14,4 +14,5 @@ pub mod Listing
 pub mod Judged
 pub mod Faults
 pub mod Front
+pub mod Showing
 pub mod Promises

@@ -11,14 +11,17 @@ use Rattle.ground.specs.Limits.{longestText}
 use Rattle.ground.specs.Outcome.{Injective, Single}
 use Rattle.ground.proofs.Refusal.{never-right, same-right, same-wrong}
 use Rattle.ground.proofs.Outcome.{single-answer, single-value}
+use Rattle.ground.proofs.Tests.{by-test}
 use Rattle.texts.specs.Lines.{linesOf}
+use Rattle.texts.specs.Meaning.{OnePart}
+use Rattle.texts.proofs.Places.{one-part}
 use Rattle.lines.specs.declared.Heading.{Heading}
 use Rattle.lines.specs.declared.Order.{Order}
 use Rattle.lines.specs.declared.Load.{Load}
 use Rattle.orders.specs.Answers.{bookFor}
 use Rattle.orders.specs.Meaning.{CleanList}
 use Rattle.plans.specs.Judging.{noteLoad, judged, asJudged, shown}
-use Rattle.plans.specs.Meaning.{faultOf, Obeys, LoadWrong, FirstFault, RightBefore}
+use Rattle.plans.specs.Meaning.{faultOf, Obeys, LoadWrong, FirstFault, RightBefore, PartShown}
 use Rattle.plans.specs.declared.Fault.{Fault}
 use Rattle.plans.specs.declared.Judgement.{Judgement}
 use Rattle.plans.specs.declared.Judgement.the-variants as judgement
@@ -28,6 +31,7 @@ use Rattle.plans.proofs.Judged as judging
 use Rattle.plans.proofs.Loads as loads
 use Rattle.plans.proofs.Faults as faults
 use Rattle.plans.proofs.Front as front
+use Rattle.plans.proofs.Showing.{part-shown}
 
 -- 2f: right with a number exactly when the plan obeys the list, and that is the number of plan lines
 pub right-exactly : (list plan : List ℕ) (count : ℕ) → (judged list plan ≡ right count) ↔ (Obeys list plan × (count ≡ length (linesOf plan)))
@@ -122,5 +126,16 @@ judge-single κs list plan after = single-answer asJudged judgement-told (judged
 -- 1d: the line at fault, likewise
 pub line-at-fault-single :
     (κs : Lfts 1) (list plan : _) (fault : Fault) (after : _) (one other : _) → at-fault.Learnt κs (list, (plan, (fault, tt))) one after
-    → at-fault.Learnt κs (list, (plan, (fault, tt))) other after → one .now ≡ other .now
-line-at-fault-single κs list plan fault after one other p q = single-value (shown fault (list .now) (plan .now)) (one .now) (other .now) p q
+    → at-fault.Learnt κs (list, (plan, (fault, tt))) other after → OnePart one other
+line-at-fault-single κs list plan fault after one other p q =
+    by-test (fault .plan) (λ inside. one-part plan one other _ (p .0) (q .0) (p .1 .in-plan inside) (q .1 .in-plan inside))
+    (λ outside. one-part list one other _ (p .0) (q .0) (p .1 .in-list outside) (q .1 .in-list outside))
+
+-- the line at fault lies in the text that it stands in: at the fault's place, or as the empty front
+pub line-at-fault-lies :
+    (κs : Lfts 1) (list plan part : _) (fault : Fault) (after : _) → at-fault.Learnt κs (list, (plan, (fault, tt))) part after
+    → (fault .plan ≡ true → PartShown fault plan part) × (fault .plan ≡ false → PartShown fault list part)
+line-at-fault-lies κs list plan part fault after learnt = (
+  λ inside. part-shown fault plan part (learnt .1 .in-plan inside),
+  λ outside. part-shown fault list part (learnt .1 .in-list outside),
+)

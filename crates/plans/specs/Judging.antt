@@ -1,13 +1,16 @@
 -- How a plan is judged: "The checker is lent an order list and a plan, made by whoever … The first fault is the answer, with its number,
 -- which text, its line number, and the line at fault". Assumes nothing.
 use Prim.Native.Nat.{ℕ, suc, _+_}
+use mathlib.Core.Path.{_≡_}
 use mathlib.Core.Bool.{Bool, true, false, not, cond, _||_}
 use mathlib.Core.List.{List, [], _∷_, _++_}
 use lib.ListN.{length}
+use denote.Ref.{RefT, now}
 use lib.Dec.{leb, eqb}
 use Rattle.ground.specs.Refusal.{Or, Read, wrong, right, check, _>>=_, _>>_}
 use Rattle.ground.specs.Limits.{longestText}
-use Rattle.texts.specs.Lines.{linesOf, pastLine, partOf}
+use Rattle.texts.specs.Lines.{linesOf, pastLine, partOf, partStart}
+use Rattle.texts.specs.Meaning.{LiesAt}
 use Rattle.lines.specs.Reading.{orderOf, loadOf}
 use Rattle.lines.specs.declared.Order.{Order}
 use Rattle.lines.specs.declared.Load.{Load}
@@ -109,3 +112,8 @@ asJudged (judgement.Wrong fault) = wrong fault
 -- "the line at fault shown as a part of the text it stands in"
 unfoldable pub shown : Fault → List ℕ → List ℕ → List ℕ
 shown fault list plan = partOf (cond (fault .plan) plan list) (fault .from) (fault .to)
+
+-- and where it lies: in the plan or in the list, as a part of it does
+pub record ShownIn (fault : Fault) (list plan part : RefT (List ℕ)) : Type 0 where
+  pub in-plan : fault .plan ≡ true → LiesAt part plan (partStart (now plan) (fault .from) (fault .to))
+  pub in-list : fault .plan ≡ false → LiesAt part list (partStart (now list) (fault .from) (fault .to))

@@ -5,10 +5,11 @@ use mathlib.Core.Path.{_≡_}
 use mathlib.Core.Bool.{Bool, true, false}
 use mathlib.Core.List.{List, [], _∷_, _++_, map}
 use lib.ListN.{length}
+use denote.Ref.{RefT, now}
 use Rattle.ground.specs.Refusal.{right}
 use Rattle.texts.specs.Lines.{linesOf, lineAt}
 use Rattle.lines.specs.Reading.{headingOf, loadOf}
-use Rattle.texts.specs.Meaning.{joined}
+use Rattle.texts.specs.Meaning.{joined, LiesAt}
 use Rattle.lines.specs.Meaning.{HeadingFault, LoadFault}
 use Rattle.lines.specs.declared.Heading.{Heading}
 use Rattle.lines.specs.declared.Order.{Order}
@@ -120,3 +121,10 @@ pub record RightBefore (list plan : List ℕ) (fault : Fault) (line : List ℕ) 
   pub whole : plan ≡ front ++ (line ++ rest)
   pub before : judged list front ≡ right (fault .line - 1)
   pub place : (fault .from ≡ length front) × (fault .to ≡ length front + length line)
+
+-- "the line at fault shown as a part of the text it stands in": it lies in the memory of that text, from the fault's place on where its places are
+-- places of the text in order, and else it is the empty front
+abbrev pub PartShown : Fault → RefT (List ℕ) → RefT (List ℕ) → Type 0
+PartShown fault text part =
+    ((fault .from ≤ fault .to) × (fault .to ≤ length (now text)) → LiesAt part text (fault .from))
+    × (((fault .from ≤ fault .to) × (fault .to ≤ length (now text)) → ⊥) → LiesAt part text 0)

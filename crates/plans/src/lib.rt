@@ -10,7 +10,7 @@ ghost use Rattle.ground.specs.Limits.{mostChambers, mostOrders, longestText};
 ghost use Rattle.book.specs.Taking.{told};
 ghost use Rattle.loads.specs.Checks.{loadMarked};
 ghost use Rattle.orders.specs.Answers.{opening, begunWith};
-ghost use Rattle.plans.specs.Judging.{loadsCounted, bothJudged, judged, asJudged, shown};
+ghost use Rattle.plans.specs.Judging.{loadsCounted, bothJudged, judged, asJudged, shown, ShownIn};
 ghost use Rattle.plans.specs.Steps.{ordersLeft, OrdersAre, ordersFrom, Loaded};
 use book::Answer;
 use book::Book;
@@ -264,6 +264,7 @@ pub fn judge(list: &[u8], plan: &[u8]) -> Judgement
 // The line at fault, as a part of the text that it stands in.
 pub fn line_at_fault<'a>(list: &'a [u8], plan: &'a [u8], fault: Fault) -> &'a [u8]
     ensures { λ r. ⌜ now r ≡ shown fault (now (list .entry)) (now (plan .entry)) ⌝ }
+    ensures { λ r. ⌜ ShownIn fault (list .entry) (plan .entry) r ⌝ }
 {
     let from = fault.from;
     let to = fault.to;
