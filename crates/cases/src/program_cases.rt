@@ -1,50 +1,36 @@
 // The cases of the programs: a list given to the desk, and a list and a plan given to the checker.
 // Any texts may come. Assumes nothing.
+ghost use mathlib.Core.Path.{_≡_};
+ghost use mathlib.Core.Bool.{false};
+ghost use Prim.Native.Nat.{_<_};
+ghost use Rattle.replies.specs.Filling.{leftOf};
 use crate::case_text;
 use crate::case_text::TextRead;
 use crate::results;
-use book::Answer;
-use orders::Progress;
 use plans::Fault;
 use plans::Judgement;
-use writer::LINE_ROOM;
-use writer::text_in;
+use replies::Reply;
 
 // The reply to a whole list, as one text.
 pub(crate) fn desk(list: &[u8]) {
     results::word(b"");
-    let begun = orders::begin(list);
-    let progress = begun.progress;
-    if begun.refusal != 0 {
-        reply_with(progress.line, Answer::Refused(begun.refusal));
-        return;
+    let mut reply = replies::begin(list);
+    while !reply.over {
+        reply = reply_with_some(list, reply);
     }
-    go_through(list, progress);
 }
 
-// A reply for each line that is left, and then the sum.
-fn go_through(list: &[u8], begun: Progress) {
-    let mut progress = begun;
-    while progress.at < list.len() {
-        let step = orders::next(list, progress);
-        let answer = step.answer;
-        reply_with(progress.line, answer);
-        progress = step.progress;
-    }
-    let book = progress.book;
-    reply_with_sum(book.taken, book.kept);
-}
-
-fn reply_with(line: u32, answer: Answer) {
-    let mut buffer = [0u8; LINE_ROOM];
-    let written = replies::write_answer(line, answer, &mut buffer);
-    results::part_of_text(text_in(written, &buffer));
-}
-
-fn reply_with_sum(taken: u32, kept: u32) {
-    let mut buffer = [0u8; LINE_ROOM];
-    let written = replies::write_sum(taken, kept, &mut buffer);
-    results::part_of_text(text_in(written, &buffer));
+// As many lines of a reply as a buffer has room for; how far it has come then.
+fn reply_with_some(list: &[u8], reply: Reply) -> Reply
+    requires { ⌜ reply .over ≡ false ⌝ }
+    ensures { λ r. ⌜ leftOf (now (list .entry)) r < leftOf (now (list .entry)) reply ⌝ }
+{
+    let mut buffer = io::buffer();
+    let filled = replies::fill(list, reply, &mut buffer);
+    let length = filled.length;
+    let next = filled.reply;
+    results::part_of_text(&buffer[..length]);
+    next
 }
 
 // The judgement of a plan for the list that a word has to be.

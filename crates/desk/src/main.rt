@@ -1,12 +1,11 @@
 // The desk program: reads an order list from standard input to its end, and prints the reply.
 // What is read and answered is the library's; here it is read in, called and written out. A read that fails counts as the end of the input.
 ghost use mathlib.Core.Path.{_≡_};
-ghost use Rattle.orders.specs.Answers.{progressPast};
-use book::Answer;
+ghost use mathlib.Core.Bool.{true, false};
+ghost use Prim.Native.Nat.{_<_};
+ghost use Rattle.replies.specs.Filling.{leftOf};
 use ground::LONGEST_TEXT;
-use orders::Progress;
-use writer::LINE_ROOM;
-use writer::text_in;
+use replies::Reply;
 
 // Room for a list, and for one byte more, which tells that a text is too long.
 const ROOM: usize = LONGEST_TEXT + 1;
@@ -17,7 +16,7 @@ fn main() {
     if length == ROOM {
         pass_over_rest();
     }
-    reply(&list[..length]);
+    print_reply(&list[..length]);
 }
 
 // Reads on to the end of the input and keeps nothing. A loop has to end and nothing says that an input does, so its turns are counted down from a number that no run uses up.
@@ -34,45 +33,47 @@ fn pass_over_some() -> bool {
     0 < io::read_full(0, &mut space)
 }
 
-// The reply to a whole text.
-fn reply(text: &[u8]) {
-    let begun = orders::begin(text);
-    let progress = begun.progress;
-    if begun.refusal != 0 {
-        print_answer(progress.line, Answer::Refused(begun.refusal));
-        return;
+// Prints the reply to a whole text, piece by piece.
+fn print_reply(text: &[u8]) {
+    let mut reply = replies::begin(text);
+    while !reply.over {
+        reply = print_some(text, reply);
     }
-    go_through(text, progress);
 }
 
-// A reply for each line that is left, and then the sum.
-fn go_through(text: &[u8], begun: Progress) {
-    let mut progress = begun;
-    while progress.at < text.len() {
-        progress = print_next(text, progress);
-    }
-    let book = progress.book;
-    print_sum(book.taken, book.kept);
-}
-
-// The reply to the line at a place; the progress past it.
-fn print_next(text: &[u8], progress: Progress) -> Progress
-    ensures { λ r. ⌜ r ≡ progressPast (now (text .entry)) progress ⌝ }
+// Prints as many lines of a reply as a buffer has room for; how far it has come then.
+fn print_some(text: &[u8], reply: Reply) -> Reply
+    requires { ⌜ reply .over ≡ false ⌝ }
+    ensures { λ r. ⌜ leftOf (now (text .entry)) r < leftOf (now (text .entry)) reply ⌝ }
 {
-    let step = orders::next(text, progress);
-    let answer = step.answer;
-    print_answer(progress.line, answer);
-    step.progress
+    let mut buffer = io::large_buffer();
+    let filled = replies::fill(text, reply, &mut buffer);
+    let length = filled.length;
+    let next = filled.reply;
+    if print(&buffer[..length]) {
+        next
+    } else {
+        lost(reply)
+    }
 }
 
-fn print_answer(line: u32, answer: Answer) {
-    let mut buffer = [0u8; LINE_ROOM];
-    let written = replies::write_answer(line, answer, &mut buffer);
-    io::write_all(1, text_in(written, &buffer));
+// Whether a text was written out; one that was not is told on standard error.
+fn print(text: &[u8]) -> bool {
+    if io::write_all(1, text) {
+        return true;
+    }
+    io::write_all(2, b"desk: the reply could not be written\n");
+    false
 }
 
-fn print_sum(taken: u32, kept: u32) {
-    let mut buffer = [0u8; LINE_ROOM];
-    let written = replies::write_sum(taken, kept, &mut buffer);
-    io::write_all(1, text_in(written, &buffer));
+// A reply that could not be written: no more of it is tried.
+fn lost(reply: Reply) -> Reply
+    ensures { λ r. ⌜ r .over ≡ true ⌝ }
+{
+    let progress = reply.progress;
+    Reply {
+        refusal: reply.refusal,
+        progress,
+        over: true,
+    }
 }

@@ -2,5 +2,10 @@
 pub mod Replying
 pub mod Walking
 pub mod ReplyText
+pub mod Fields
+pub mod Filling
+pub mod Pieces
 pub mod Sums
+pub mod Whole
+pub mod Room
 pub mod Promises

@@ -44,19 +44,19 @@ tabbed-unbroken (field ∷ next ∷ fields) clean =
 line-with : (fields : List (List ℕ)) {lines : List (List ℕ)} → allClean fields ≡ true → AreLines lines → AreLines (lineWith fields ∷ lines)
 line-with fields clean are = more (tabbed fields) _ (tabbed-unbroken fields clean) are
 
-answer-clean : (answer : Answer) → allClean (answerFields answer) ≡ true
+pub answer-clean : (answer : Answer) → allClean (answerFields answer) ≡ true
 unfolding allClean isClean bytes
 answer-clean (Yes chamber start) = both (clean-number chamber) (both (clean-hour start) refl)
 answer-clean No = refl
 answer-clean (Refused number) = both (clean-number number) refl
 
-reply-is : (line : ℕ) (answer : Answer) {lines : List (List ℕ)} → AreLines lines → AreLines (replyLine line answer ∷ lines)
+pub reply-is : (line : ℕ) (answer : Answer) {lines : List (List ℕ)} → AreLines lines → AreLines (replyLine line answer ∷ lines)
 unfolding replyLine allClean
 reply-is line answer are = line-with _ (both (clean-number line) (answer-clean answer)) are
 
-sum-is : (taken kept : ℕ) → AreLines (sumLine taken kept ∷ [])
+pub sum-is : (taken kept : ℕ) {lines : List (List ℕ)} → AreLines lines → AreLines (sumLine taken kept ∷ lines)
 unfolding sumLine allClean isClean bytes
-sum-is taken kept = line-with _ (both (clean-number taken) (both (clean-number kept) refl)) none
+sum-is taken kept are = line-with _ (both (clean-number taken) (both (clean-number kept) refl)) are
 
 numbered-are : (line : ℕ) (answers : List Answer) {lines : List (List ℕ)} → AreLines lines → AreLines (numbered line answers ++ lines)
 unfolding numbered
@@ -66,7 +66,7 @@ numbered-are line (answer ∷ answers) are = reply-is line answer (numbered-are 
 replies-are : (text : List ℕ) (begun : Read Book) → AreLines (repliesBy text begun)
 unfolding repliesFrom
 replies-are text (wrong number) = reply-is (refusedLine number) (Refused number) none
-replies-are text (right book) = numbered-are 2 (answersFrom book (orderLines text)) (sum-is _ _)
+replies-are text (right book) = numbered-are 2 (answersFrom book (orderLines text)) (sum-is _ _ none)
 
 -- the lines of a reply are the replies
 pub reply-lines : (text : List ℕ) → linesOf (replyOf text) ≡ repliesBy text (opening text)

@@ -1,13 +1,17 @@
 -- Laws of the lines of a reply: the fields that they are put together from, and what is written of a line. Assumes nothing.
-use Prim.Native.Nat.{ℕ}
+use Prim.Native.Nat.{ℕ, _≤_}
 use mathlib.Core.Path.{_≡_, refl}
 use mathlib.Core.Bool.{true, false}
+use lib.ListN.{length, length-append}
 use lib.Dec.{leb}
+use native.Mathlib.Omega.{arith}
 use borrow.Author.Tests.{leb-true, leb-false, lt-leb}
 use Rattle.ground.specs.Refusal.{right, check, _>>_}
 use Rattle.ground.specs.Limits.{lastHour}
 use Rattle.ground.proofs.Tests.{by-test, never-both}
-use Rattle.writer.specs.Line.{textsOf, lineOf}
+use Rattle.ground.specs.Text.{bytes}
+use Rattle.fields.specs.Meaning.{tabbed}
+use Rattle.writer.specs.Line.{lineRoom, bytesOfAll, textsOf, lineOf}
 use Rattle.writer.proofs.Line.{hour-within, hour-above}
 use Rattle.book.specs.declared.Answer.{Answer}
 use Rattle.book.specs.declared.Answer.the-variants.{Yes, No, Refused}
@@ -15,6 +19,7 @@ use Rattle.replies.specs.Replies.{replyLine, sumLine, startInRange, repl
 use Rattle.replies.specs.Meaning.{StartsPastLast}
 use Rattle.replies.specs.Meaning.StartsPastLast.{past}
 use Rattle.replies.specs.Steps.{replyPut, sumPut}
+use Rattle.replies.specs.Filling.{bytesIn}
 
 -- the lines to be written are those of their fields
 pub reply-of-fields : (line : ℕ) (answer : Answer) → replyWritten line answer ≡ lineOf (replyPut line answer)
@@ -50,3 +55,19 @@ not-past answer passed late = never-both passed (not-in-range late)
 pub tested : (line : ℕ) (answer : Answer) → replyWritten line answer ≡ (check (startInRange answer) 4 >> right (replyLine line answer))
 unfolding replyWritten
 tested line answer = refl
+
+-- a line has room where its fields and their stops have
+pub reply-fits : (line : ℕ) (answer : Answer) → bytesOfAll (replyPut line answer) ≤ lineRoom → length (bytesIn (replyWritten line answer)) ≤ lineRoom
+unfolding replyWritten replyLine tabbed bytes bytesOfAll
+reply-fits line (Yes chamber start) room =
+    by-test (leb start lastHour)
+    (λ passed.
+    let whole = rw (hour-within start (leb-true start lastHour passed)) at room in
+    rw passed (simp length-append (omega (arith, whole))))
+    (λ failed. rw failed (omega arith))
+reply-fits line No room = simp length-append (omega arith)
+reply-fits line (Refused number) room = simp length-append (omega arith)
+
+pub sum-fits : (taken kept : ℕ) → bytesOfAll (sumPut taken kept) ≤ lineRoom → length (sumLine taken kept) ≤ lineRoom
+unfolding sumLine tabbed bytes bytesOfAll
+sum-fits taken kept room = simp length-append (omega arith)

@@ -15,7 +15,7 @@ use Rattle.orders.proofs.Counting.{all-taken, all-kept, answers-length}
 use Rattle.orders.proofs.Promises.{clean-exactly}
 
 -- every answer has a reply
-numbered-length : (line : ℕ) (answers : List Answer) → length (numbered line answers) ≡ length answers
+pub numbered-length : (line : ℕ) (answers : List Answer) → length (numbered line answers) ≡ length answers
 unfolding numbered
 numbered-length line [] = refl
 numbered-length line (answer ∷ answers) = omega (arith, numbered-length (suc line) answers)

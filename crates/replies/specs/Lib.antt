@@ -2,3 +2,4 @@
 pub mod Replies
 pub mod Meaning
 pub mod Steps
+pub mod Filling
