@@ -7,9 +7,11 @@ ghost use Rattle.replies.specs.Filling.{leftOf};
 use crate::case_text;
 use crate::case_text::TextRead;
 use crate::results;
-use plans::Fault;
+use judgements::write_checked;
 use plans::Judgement;
 use replies::Reply;
+use writer::LINE_ROOM;
+use writer::text_in;
 
 // The reply to a whole list, as one text.
 pub(crate) fn desk(list: &[u8]) {
@@ -42,22 +44,13 @@ pub(crate) fn checker(word: &[u8], plan: &[u8]) {
     }
 }
 
-// The list and the plan have one lifetime, as the line at fault is a part of either.
+// What the checker prints, and the part shown. The list and the plan have one lifetime, as the line at fault is a part of either.
 fn judge<'a>(list: &'a [u8], plan: &'a [u8]) {
+    let mut buffer = [0u8; LINE_ROOM];
+    let written = write_checked(list, plan, &mut buffer);
+    results::words_of(text_in(written, &buffer));
     match plans::judge(list, plan) {
-        Judgement::Right(count) => results::named(b"right", &[count]),
-        Judgement::Wrong(fault) => show(fault, plans::line_at_fault(list, plan, fault)),
+        Judgement::Right(count) => (),
+        Judgement::Wrong(fault) => results::text(plans::line_at_fault(list, plan, fault)),
     }
-}
-
-// A fault, and the part shown.
-fn show(fault: Fault, line: &[u8]) {
-    results::named(b"fault", &[fault.number]);
-    if fault.plan {
-        results::word(b"plan");
-    } else {
-        results::word(b"orders");
-    }
-    results::numbers(&[fault.line]);
-    results::text(line);
 }

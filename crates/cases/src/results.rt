@@ -47,6 +47,26 @@ pub(crate) fn part_of_text(bytes: &[u8]) {
     }
 }
 
+// The fields of a line as words: a space stands for each tab, and nothing for its end.
+pub(crate) fn words_of(line: &[u8]) {
+    word(b"");
+    let mut at: usize = 0;
+    while at < line.len() {
+        spaced(line[at]);
+        at += 1;
+    }
+}
+
+fn spaced(seen: u8) {
+    if seen == b'\t' {
+        io::write_all(1, b" ");
+        return;
+    }
+    if seen != b'\n' {
+        io::write_all(1, &[seen]);
+    }
+}
+
 fn byte(seen: u8) {
     if case_text::is_plain(seen) {
         io::write_all(1, &[seen]);

@@ -1,7 +1,7 @@
 // The checker program: judges the plan that its second argument names for the order list that its first one names, and prints the judgement.
 // What is judged and how it is printed is the library's; here it is read in, called and written out. A file that cannot be opened or read to its end is unread.
 use ground::LONGEST_TEXT;
-use judgements::write_judgement;
+use judgements::write_checked;
 use writer::LINE_ROOM;
 use writer::text_in;
 
@@ -42,9 +42,11 @@ fn was_read(file: i32) -> bool {
     0 <= libc::read(file, &mut byte)
 }
 
-// The judgement of a plan for a list.
+// The judgement of a plan for a list; a line that cannot be written out is told on standard error.
 fn print_judgement(list: &[u8], plan: &[u8]) {
     let mut buffer = [0u8; LINE_ROOM];
-    let written = write_judgement(plans::judge(list, plan), &mut buffer);
-    io::write_all(1, text_in(written, &buffer));
+    let written = write_checked(list, plan, &mut buffer);
+    if !io::write_all(1, text_in(written, &buffer)) {
+        io::write_all(2, b"checker: the judgement could not be written\n");
+    }
 }

@@ -1,3 +1,4 @@
--- What the contracts of this room cite.
+-- What the contracts of this room cite, and what they are proved to mean.
 pub mod Judgements
+pub mod Meaning
 pub mod Steps

@@ -1,5 +1,5 @@
-// The line of a judgement, written to a lent buffer: right with its number, or the fault.
-// Any judgement and any buffer may come. Assumes nothing.
+// The line of a judgement, written to a lent buffer: right with its number, or the fault; and that of a plan judged for a list.
+// Any judgement, any texts and any buffer may come. Assumes nothing.
 ghost use mathlib.Core.Path.{_≡_};
 ghost use Prim.Native.Nat.{_≤_};
 ghost use Rattle.ground.specs.Refusal.{right};
@@ -7,10 +7,11 @@ ghost use Rattle.ground.specs.Buffer.{fitted, lengthOf, bufferAfter};
 ghost use Rattle.fields.specs.Fields.{tab};
 ghost use Rattle.writer.specs.Writing.{asLength};
 ghost use Rattle.writer.specs.Line.{placeAfter, heldAfter, Comes, bytesOfAll, lineRoom};
-ghost use Rattle.judgements.specs.Judgements.{textWord, judgementLine};
+ghost use Rattle.judgements.specs.Judgements.{textWord, judgementLine, checkedLine};
 ghost use Rattle.judgements.specs.Steps.{judgementPut};
 use plans::Fault;
 use plans::Judgement;
+use plans::judge;
 use writer::LINE_ROOM;
 use writer::Written;
 use writer::put_number;
@@ -67,4 +68,13 @@ pub fn write_judgement(judgement: Judgement, buffer: &mut [u8]) -> Written
     let mut own = [0u8; LINE_ROOM];
     let line = put_judgement(judgement, &mut own);
     write_line(line, &own, buffer)
+}
+
+// Writes the line of a plan judged for a list, which is what the checker prints: refusal 7 where the buffer is too short.
+pub fn write_checked(list: &[u8], plan: &[u8], buffer: &mut [u8]) -> Written
+    ensures { λ r. ⌜ asLength r ≡ lengthOf (fitted (now (buffer .entry)) (right (checkedLine (now (list .entry)) (now (plan .entry))))) ⌝ }
+    ensures { λ r. ⌜ now (buffer .exit) ≡ bufferAfter (now (buffer .entry)) (fitted (now (buffer .entry)) (right (checkedLine (now (list .entry)) (now (plan .entry))))) ⌝ }
+{
+    let judgement = judge(list, plan);
+    write_judgement(judgement, buffer)
 }

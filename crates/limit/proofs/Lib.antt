@@ -8,4 +8,5 @@ pub mod YesLoads
 pub mod YesText
 pub mod YesPlan
 pub mod Reached
+pub mod Printed
 pub mod Demand

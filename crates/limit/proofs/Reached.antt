@@ -1,6 +1,7 @@
 -- The paper's example, computed: the desk refuses no line of its list and says yes five times, and its plan is judged right with nine loads. Assumes nothing.
 use mathlib.Core.Path.{_≡_, refl}
 use mathlib.Core.List.{List}
+use lib.ListN.{length}
 use Rattle.ground.specs.Refusal.{right}
 use Rattle.ground.specs.Text.{bytes}
 use Rattle.classes.specs.Classes.{classOf}
@@ -24,6 +25,11 @@ pub paper-clean : (orders : List Order) × CleanList paperList (record { chamber
 unfolding
     opening orderLines answersFrom refusals bytes classOf scanned hourOf plainOf linesOf lineLength lineAt sameBytes isEnded fieldsOf shapeOf steam steamAt ranged plainWithin hourWithin readAll lineOf headingOf orderOf decided isSound soundness allMet allUpTo bestFit offer paperList
 paper-clean = clean-exactly paperList (record { chambers = 2; run = 300 }) .0 (refl, refl)
+
+-- it has nine orders
+pub paper-orders : length (orderLines paperList) ≡ 9
+unfolding orderLines bytes linesOf paperList
+paper-orders = refl
 
 -- the desk says yes five times
 pub paper-yeses : yeses (answersFrom (freshBook 2 300) (orderLines paperList)) ≡ 5

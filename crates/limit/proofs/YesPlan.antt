@@ -67,7 +67,7 @@ module _ (list : List ℕ) (heading : Heading) (orders : List Order) (clean : Cl
   loads-given = yeses-given firstOrderLine book (length-replicate {A = ℕ} mostChambers 0) (orderLines list) orders (clean .ordered .read)
 
   -- they can be written
-  loads-writable : Each (Writable (heading .chambers)) loads
+  pub loads-writable : Each (Writable (heading .chambers)) loads
   loads-writable =
       each-so (given-writable (heading-ranges (lineAt list 0) heading (clean .headed) .1) (clean .ordered .few)) (loads-given .each)
 

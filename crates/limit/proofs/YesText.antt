@@ -86,7 +86,7 @@ abbrev pub longestLine : ℕ
 longestLine = 18
 
 -- no plan line has more
-line-short : {order chamber start : ℕ} → InRange order chamber start → length (planText order chamber start) ≤ longestLine
+pub line-short : {order chamber start : ℕ} → InRange order chamber start → length (planText order chamber start) ≤ longestLine
 unfolding planText tabbed
 line-short {order} {chamber} {start} range =
     simp length-append
