@@ -1,4 +1,5 @@
--- Chambers counted: those that are taken past an hour, those that do not fit an order, and how a load that is put into one changes the first count.
+-- Chambers counted: those that are taken past an hour, those that do not fit an order, and how a load that is put into one changes the
+-- first count.
 -- Each test is a number, 0 or 1, so that arithmetic alone reads it. Assumes nothing.
 use Prim.Native.Nat.{ℕ, zero, suc, _+_, _-_, _≤_, _<_, min, max}
 use mathlib.Core.Path.{_≡_, refl}

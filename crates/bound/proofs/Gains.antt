@@ -1,4 +1,5 @@
--- What a load of a plan gains by the rule's answers, from the first order to its own: from all of them at least the sum of all steps. Assumes nothing.
+-- What a load of a plan gains by the rule's answers, from the first order to its own: from all of them at least the sum of all steps.
+-- Assumes nothing.
 use Prim.Native.Nat.{ℕ, zero, suc, _+_, _-_, _*_, _≤_}
 use mathlib.Core.Path.{_≡_, refl}
 use mathlib.Core.List.{List, [], _∷_}
@@ -17,7 +18,8 @@ abbrev pub ifOwn : ℕ → ℕ → ℕ
 ifOwn zero rest = rest
 ifOwn (suc place) rest = 0
 
--- what a load, of the order at a place and to start at an hour, gains by one answer: by a yes whose window has its hour one step, and by the yes to its own order the rest of the sum
+-- what a load, of the order at a place and to start at an hour, gains by one answer: by a yes whose window has its hour one step, and by
+-- the yes to its own order the rest of the sum
 abbrev pub gain : ℕ → ℕ → List ℕ → Choice → ℕ → ℕ → ℕ
 gain m hold free Nothing place hour = 0
 gain m hold free (Chamber chamber start) place hour =

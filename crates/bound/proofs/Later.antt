@@ -1,4 +1,5 @@
--- A plan after its list's first order is answered: the load of that order left out, and the others counted from the next order on. It is a good plan for the other orders. Assumes nothing.
+-- A plan after its list's first order is answered: the load of that order left out, and the others counted from the next order on. It is
+-- a good plan for the other orders. Assumes nothing.
 use Prim.Native.Nat.{ℕ, zero, suc}
 use mathlib.Core.Path.{ap}
 use mathlib.Core.List.{List, [], _∷_}

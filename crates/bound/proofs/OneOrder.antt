@@ -1,4 +1,5 @@
--- What the rule's answer to one order says about the chambers counted: after a no, none fits; after a yes, some chamber fits, and those taken past an hour from its start on do not. Assumes nothing.
+-- What the rule's answer to one order says about the chambers counted: after a no, none fits; after a yes, some chamber fits, and those
+-- taken past an hour from its start on do not. Assumes nothing.
 use Prim.Native.Nat.{ℕ, suc, _+_, _-_, _≤_, _<_, max}
 use mathlib.Core.Path.{_≡_, refl}
 use mathlib.Core.List.{List, [], _∷_}

@@ -1,4 +1,5 @@
--- With one chamber the limit is reached: of two orders the rule keeps one, and a good plan has both. So the definitions are no empty ones, and for one chamber no greater part can be promised. Assumes nothing.
+-- With one chamber the limit is reached: of two orders the rule keeps one, and a good plan has both. So the definitions are no empty
+-- ones, and for one chamber no greater part can be promised. Assumes nothing.
 use Prim.Native.Nat.{_*_}
 use mathlib.Core.Path.{_≡_, refl}
 use mathlib.Core.List.{List, [], _∷_}

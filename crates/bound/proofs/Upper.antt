@@ -1,4 +1,5 @@
--- From above: all loads of a good plan together gain at most the last weight by one yes, and so at most that many times the number of yeses by all answers. Assumes nothing.
+-- From above: all loads of a good plan together gain at most the last weight by one yes, and so at most that many times the number of
+-- yeses by all answers. Assumes nothing.
 use Prim.Native.Nat.{ℕ, zero, suc, _+_, _-_, _*_, _≤_}
 use mathlib.Core.Path.{_≡_, refl}
 use mathlib.Core.List.{List, [], _∷_}

@@ -1,4 +1,5 @@
--- The weights of the double count, for a number of chambers: what each chamber more that is taken adds, and what they come to. Assumes nothing.
+-- The weights of the double count, for a number of chambers: what each chamber more
+-- that is taken adds, and what they come to. Assumes nothing.
 use Prim.Native.Nat.{ℕ, zero, suc, _+_, _-_, _*_, _^_, _≤_, _<_}
 use mathlib.Core.Path.{_≡_}
 use native.Mathlib.Nat.{pow-zero, pow-suc}

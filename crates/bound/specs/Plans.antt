@@ -1,4 +1,5 @@
--- What the limit speaks of: how many orders the rule keeps, and the plans that its count is held against. Orders and loads are given as numbers, not as text. Assumes nothing.
+-- What the limit speaks of: how many orders the rule keeps, and the plans that its count is held against. Orders and loads are given as
+-- numbers, not as text. Assumes nothing.
 use Prim.Native.Nat.{ℕ, zero, suc, _+_, _-_, _≤_, _<_}
 use mathlib.Core.Path.{_≡_}
 use mathlib.Core.List.{List, [], _∷_}

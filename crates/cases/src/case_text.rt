@@ -1,5 +1,6 @@
 // A word of a case as a text: its bytes, with each escape undone, put into a lent buffer.
-// Any bytes may come; a word with a byte or an escape that stands for nothing, or with more bytes than there is room, is no text. Assumes nothing.
+// Any bytes may come; a word with a byte or an escape that stands for nothing, or with
+// more bytes than there is room, is no text. Assumes nothing.
 ghost use mathlib.Core.Path.{_≡_};
 ghost use lib.ListN.{length};
 use crate::words;

@@ -80,7 +80,8 @@ pub(crate) fn numbers_in(line: &[u8], count: usize) -> Numbers {
     Numbers { are_read, values }
 }
 
-// What a word of digits is worth; more than the last number where it is no number. There is one test at the end and none on the way, as each
+// What a word of digits is worth; more than the last number where it is no number.
+// There is one test at the end and none on the way, as each
 // would be proved: what is past the last number is cut off, and a byte's last four bits are its worth if it is a digit.
 pub(crate) fn worth(word: &[u8]) -> u64 {
     let mut is_number = word.len() != 0;

@@ -1,5 +1,7 @@
-// The checker program: judges the plan that its second argument names for the order list that its first one names, and prints the judgement.
-// What is judged and how it is printed is the library's; here it is read in, called and written out. A file that cannot be opened or read to its end is unread.
+// The checker program: judges the plan that its second argument names for the order
+// list that its first one names, and prints the judgement.
+// What is judged and how it is printed is the library's; here it is read in, called and written out. A file that cannot be opened or read
+// to its end is unread.
 use ground::LONGEST_TEXT;
 use judgements::write_checked;
 use writer::LINE_ROOM;

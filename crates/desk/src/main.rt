@@ -19,7 +19,8 @@ fn main() {
     print_reply(&list[..length]);
 }
 
-// Reads on to the end of the input and keeps nothing. A loop has to end and nothing says that an input does, so its turns are counted down from a number that no run uses up.
+// Reads on to the end of the input and keeps nothing. A loop has to end and nothing says that an input does, so its turns are counted
+// down from a number that no run uses up.
 fn pass_over_rest() {
     let mut turns = u64::MAX;
     while turns > 0 && pass_over_some() {

@@ -1,4 +1,5 @@
--- What this room promises, of the contracts themselves and of the definitions that they cite. Each is a line over a law of this folder. Assumes nothing.
+-- What this room promises, of the contracts themselves and of the definitions that they cite. Each is a line over a law of this folder.
+-- Assumes nothing.
 use Prim.Native.Nat.{ℕ, _+_, _≤_, _<_}
 use mathlib.Core.Path.{_≡_, refl, sym, _∙_}
 use mathlib.Core.Bool.{true}
@@ -29,7 +30,8 @@ tab-nine = refl
 pub keeps-five : mostFields ≡ 5
 keeps-five = refl
 
--- a line is ended and has these fields exactly when it splits into them, and has the shape exactly when it splits into as many as are asked for
+-- a line is ended and has these fields exactly when it splits into them, and has the
+-- shape exactly when it splits into as many as are asked for
 pub splits-exactly : (line : List ℕ) (fields : List (List ℕ)) → ((isEnded line ≡ true) × (fieldsOf line ≡ fields)) ↔ Splits line fields
 splits-exactly = splits.splits-exactly
 

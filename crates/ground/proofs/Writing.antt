@@ -1,4 +1,5 @@
--- Laws of a writing with two checks: 4 where a test of its numbers fails, then 7 where its text has no room. Over any test, any text and any buffer.
+-- Laws of a writing with two checks: 4 where a test of its numbers fails, then 7 where
+-- its text has no room. Over any test, any text and any buffer.
 -- Assumes nothing.
 use Prim.Native.Nat.{ℕ, _≤_, _<_}
 use mathlib.Core.Path.{_≡_, refl, sym, ap, _∙_}

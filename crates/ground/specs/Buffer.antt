@@ -1,4 +1,5 @@
--- What is written to a lent buffer: "What is written changes its own bytes at the front of the buffer and no others; its length is returned." Assumes nothing.
+-- What is written to a lent buffer: "What is written changes its own bytes at the front of the buffer and no others; its length is
+-- returned." Assumes nothing.
 use Prim.Native.Nat.{ℕ}
 use mathlib.Core.List.{List, _++_}
 use lib.ListN.{length, drop}

@@ -1,4 +1,5 @@
--- Reading goes by the spelling: a field reads as an hour exactly when it spells it, over any decimal mark that is no digit. Assumes nothing.
+-- Reading goes by the spelling: a field reads as an hour exactly when it spells it,
+-- over any decimal mark that is no digit. Assumes nothing.
 use Prim.Native.Nat.{ℕ, _+_, _*_, _≤_, _<_}
 use mathlib.Core.Path.{_≡_, refl, sym, ap, _∙_}
 use mathlib.Core.Bool.{Bool, true, false, cond}

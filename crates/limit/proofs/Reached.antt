@@ -1,4 +1,5 @@
--- The paper's example, computed: the desk refuses no line of its list and says yes five times, and its plan is judged right with nine loads. Assumes nothing.
+-- The paper's example, computed: the desk refuses no line of its list and says yes five times, and its plan is judged right with nine
+-- loads. Assumes nothing.
 use mathlib.Core.Path.{_≡_, refl}
 use mathlib.Core.List.{List}
 use lib.ListN.{length}

@@ -37,7 +37,8 @@ unfoldable pub yesLoads : ℕ → List Answer → List Load
 yesLoads line [] = []
 yesLoads line (answer ∷ answers) = yesLoad line answer ++ yesLoads (suc line) answers
 
--- a load that is given to one of these orders, the first of which stands on this line, from this book on: in time, and not before its chamber is free
+-- a load that is given to one of these orders, the first of which stands on this line, from this book on: in time, and not before its
+-- chamber is free
 pub record Given (line : ℕ) (book : Book) (orders : List Order) (load : Load) : Type 0 where
   pub front : List Order
   pub order : Order
@@ -126,7 +127,8 @@ module _ (line : ℕ) (book : Book) (sized : Sized book) (order : Order) (orders
         freed = omega (arith, best .started);
       }
 
-  -- a later load is apart from that of its yes: its order stands further down, and their chamber is free only when the yes no longer holds it
+  -- a later load is apart from that of its yes: its order stands further down, and
+  -- their chamber is free only when the yes no longer holds it
   apart-later :
       (chamber start : ℕ) → Decided (right (Chamber chamber start)) → (load : Load) → Given (suc line) (next (right (Chamber chamber start))) orders load
       → Apart (hold book) (record { order = line; chamber = chamber; start = start }) load

@@ -1,4 +1,5 @@
--- Reading a line goes by what it means: a line of any number of fields reads exactly when it is meant to, and is refused by its first fault.
+-- Reading a line goes by what it means: a line of any number of fields reads exactly
+-- when it is meant to, and is refused by its first fault.
 -- Assumes nothing.
 use Prim.Native.Nat.{ℕ, zero, suc, _≤_, _<_}
 use mathlib.Core.Path.{_≡_, refl, sym, ap, _∙_}

@@ -1,4 +1,5 @@
--- What this room promises, of the contracts themselves and of the definitions that they cite. Each is a line over a law of this folder. Assumes nothing.
+-- What this room promises, of the contracts themselves and of the definitions that they cite. Each is a line over a law of this folder.
+-- Assumes nothing.
 use Prim.Native.Nat.{ℕ, _≤_}
 use mathlib.Core.Path.{_≡_, refl, sym, ap, _∙_}
 use mathlib.Core.List.{List, [], _∷_}

@@ -1,4 +1,5 @@
--- The twelve cases that the paper marks with a P, as one list, each with the paper's answer, over the definitions that the contracts cite. Assumes nothing.
+-- The twelve cases that the paper marks with a P, as one list, each with the paper's answer, over the definitions that the contracts
+-- cite. Assumes nothing.
 use Prim.Native.Nat.{ℕ}
 use mathlib.Core.Path.{_≡_}
 use mathlib.Core.List.{List, [], _∷_, map}
@@ -15,7 +16,8 @@ use Rattle.plans.specs.declared.Fault.{Fault}
 use Rattle.replies.specs.Replies.{replyOf}
 use Rattle.limit.specs.Example.{paperList, paperPlan}
 
--- a case: a field and the hour that it is, or its refusal; a book, an order's ready and due and the answer; a list and the desk's whole reply;
+-- a case: a field and the hour that it is, or its refusal; a book, an order's ready
+-- and due and the answer; a list and the desk's whole reply;
 -- a list, a plan and how many loads it is right with, or its fault
 pub data Case : Type 0 where
   hour : List ℕ → Read ℕ → Case

@@ -1,4 +1,5 @@
--- Further cases, a second list beside the marked one: each branch, each printed word, each refusal and the limits, where a law would only repeat a definition.
+-- Further cases, a second list beside the marked one: each branch, each printed word, each refusal and the limits, where a law would only
+-- repeat a definition.
 -- What each comes to was worked out by the second program. Assumes nothing.
 use Prim.Native.Nat.{ℕ}
 use mathlib.Core.Bool.{Bool, true, false}

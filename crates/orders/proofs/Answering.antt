@@ -1,5 +1,7 @@
--- Lines answered one after another: the answers and the book past them are those that the definitions compute, whatever way it is said that a line
--- reads as an order, that it has a fault and that a book takes an order; the answer to a line is that of the book past the lines before it; and a
+-- Lines answered one after another: the answers and the book past them are those that
+-- the definitions compute, whatever way it is said that a line
+-- reads as an order, that it has a fault and that a book takes an order; the answer to
+-- a line is that of the book past the lines before it; and a
 -- refusal from a sound book on is 1 to 6. Assumes nothing.
 use Prim.Native.Nat.{ℕ, _≤_}
 use mathlib.Core.Path.{_≡_, refl, ap, _∙_}

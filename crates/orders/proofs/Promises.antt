@@ -1,4 +1,5 @@
--- What this room promises: of whatever its contracts admit, and of the definitions that they cite. Each is a line over a law of this folder.
+-- What this room promises: of whatever its contracts admit, and of the definitions
+-- that they cite. Each is a line over a law of this folder.
 -- Assumes nothing.
 use Prim.Native.Nat.{ℕ, _+_, _≤_, _<_, min}
 use mathlib.Core.Path.{_≡_, refl, sym, ap, _∙_}
@@ -170,7 +171,8 @@ module _ (κs : Lfts 0) (exit : Book × (ℕ × (ℕ × Unit {0}))) where
   Answered = Answers ReadsAs OrderFault Taking
 
   module _ (book : Book) (lines : List (List ℕ)) (answers : List Answer) (last : Book) where
-    -- the answers to lines and the book past them: each line that reads is taken by the book past those before it, and each other is refused by its
+    -- the answers to lines and the book past them: each line that reads is taken by the book past those before it, and each other is
+    -- refused by its
     -- fault and leaves that book
     pub answered-exactly : Answered book lines answers last ↔ ((answers ≡ answersFrom book lines) × (last ≡ bookAfter book lines))
     answered-exactly =
@@ -182,7 +184,8 @@ module _ (κs : Lfts 0) (exit : Book × (ℕ × (ℕ × Unit {0}))) where
       pub as-many-answers : length answers ≡ length lines
       as-many-answers = ap length (answered-exactly .0 answered .0) ∙ counting.answers-length book lines
 
-      -- kept has risen by the yeses and taken by the answers that are not refusals, and the clock is the ready hour of the last line not refused
+      -- kept has risen by the yeses and taken by the answers that are not refusals, and
+      -- the clock is the ready hour of the last line not refused
       pub counted-exactly :
           (kept taken clock : ℕ)
           → Counts ReadsAs (book .clock) lines answers kept taken clock
@@ -259,7 +262,8 @@ module _ (κs : Lfts 0) (exit : Book × (ℕ × (ℕ × Unit {0}))) where
         answering.refused-range (newBook (heading .chambers) (heading .run)) (openings.heading-sound first heading reads) lines front number rest
         (sym (answered-exactly (newBook (heading .chambers) (heading .run)) lines answers last .0 answered .0) ∙ among)
 
-    -- kept is the number of yeses, taken that of the answers that are not refusals, and the clock the ready hour of the last line not refused
+    -- kept is the number of yeses, taken that of the answers that are not refusals, and
+    -- the clock the ready hour of the last line not refused
     pub fresh-counted : Counts ReadsAs 0 lines answers (last .kept) (last .taken) (last .clock)
     fresh-counted =
         counted-exactly (newBook (heading .chambers) (heading .run)) lines answers last answered (last .kept) (last .taken) (last .clock) .1

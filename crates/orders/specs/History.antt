@@ -21,7 +21,8 @@ abbrev pub newBook : ℕ → ℕ → Book
 newBook chambers run =
     record { chambers = chambers; run = run; clock = 0; taken = 0; kept = 0; free = 0 ∷ 0 ∷ 0 ∷ 0 ∷ 0 ∷ 0 ∷ 0 ∷ 0 ∷ [] }
 
--- lines answered one after another from a book on, and the book past them, over what it means that a line reads as an order, that it has a fault
+-- lines answered one after another from a book on, and the book past them, over what it
+-- means that a line reads as an order, that it has a fault
 -- and that a book takes an order: one that reads is taken, and of one that does not "Refused lines change nothing and it goes on"
 pub data Answers
     (Reads : List ℕ → Order → Type 0)
@@ -37,7 +38,8 @@ pub data Answers
       → Answers Reads Fault Takes book lines answers last
       → Answers Reads Fault Takes book (line ∷ lines) (Refused number ∷ answers) last
 
--- what the answers to lines count from a clock on, how many are kept, how many taken, and the clock then: with a yes "Taken and kept each rise by 1
+-- what the answers to lines count from a clock on, how many are kept, how many taken,
+-- and the clock then: with a yes "Taken and kept each rise by 1
 -- and the clock becomes r", with a no "taken rises by 1, the clock becomes r", and "Refused lines change nothing"
 pub data Counts (Reads : List ℕ → Order → Type 0) : ℕ → List (List ℕ) → List Answer → ℕ → ℕ → ℕ → Type 0 where
   of-none : {clock : ℕ} → Counts Reads clock [] [] 0 0 clock

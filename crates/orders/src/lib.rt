@@ -139,7 +139,8 @@ fn passed(end: usize, progress: Progress, number: u32) -> Step
     }
 }
 
-// The order on the line at the place of a progress, its answer, and the progress past it; past the end the line is empty, which is refused by 1.
+// The order on the line at the place of a progress, its answer, and the progress past it; past the end the line is empty, which is
+// refused by 1.
 pub fn next(text: &[u8], progress: Progress) -> Step
     ensures { λ r. ⌜ Stepped (now (text .entry)) progress r ⌝ }
 {

@@ -29,8 +29,10 @@ write-plan-line-single κs order chamber start buffer one other held kept p q = 
 pub plan-text : (order chamber start : ℕ) → InRange order chamber start → PlanText order chamber start (planText order chamber start)
 plan-text = back.plan-text
 
--- 1b, 1c: a plan line is refused by 4 exactly when a number is out of its range, whatever the room, then by 7 exactly when its text is longer
--- than the buffer, and every byte stays; in every other case its text stands at the front, every other byte stays, and its length is answered
+-- 1b, 1c: a plan line is refused by 4 exactly when a number is out of its range,
+-- whatever the room, then by 7 exactly when its text is longer
+-- than the buffer, and every byte stays; in every other case its text stands at the
+-- front, every other byte stays, and its length is answered
 pub plan-line-writes :
     (κs : Lfts 1) (order chamber start : ℕ) (buffer : _) (answer : Written) (after : _)
     → write-plan-line.Learnt κs (order, (chamber, (start, (buffer, tt)))) answer after

@@ -324,7 +324,8 @@ module _ (list plan : List ℕ) where
         told = refl;
       })))
 
-  -- "The first fault is the answer, with its number, which text, its line number, and the line at fault shown as a part of the text it stands in"
+  -- "The first fault is the answer, with its number, which text, its line number, and
+  -- the line at fault shown as a part of the text it stands in"
   pub fault-exactly : (fault : Fault) → (judged list plan ≡ wrong fault) ↔ FirstFault list plan fault (shown fault list plan)
   fault-exactly fault = (
     λ e. let first = wrong-from fault e in rw (first-shown list plan (first .1)) (first .1),

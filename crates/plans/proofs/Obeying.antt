@@ -1,4 +1,5 @@
--- The loads of a plan: its lines are all noted exactly when they have no fault, and else it stops at the first that has one. Assumes nothing.
+-- The loads of a plan: its lines are all noted exactly when they have no fault, and
+-- else it stops at the first that has one. Assumes nothing.
 use Prim.Native.Nat.{ℕ, _+_}
 use mathlib.Core.Path.{_≡_, refl, sym, subst, _∙_}
 use mathlib.Core.Bool.{true}

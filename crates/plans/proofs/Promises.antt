@@ -115,7 +115,8 @@ answers-wrong κs list plan answer after learnt fault = (
   λ first. judgement-told answer (judgement.Wrong fault) (learnt ∙ fault-exactly (list .now) (plan .now) fault .1 first),
 )
 
--- "Where there is no line (fault 9 or an empty list, which is 1), the line number is … 1 for the empty list, and the part shown is the empty front"
+-- "Where there is no line (fault 9 or an empty list, which is 1), the line number is … 1 for the empty list, and the part shown is the
+-- empty front"
 pub empty-list : (plan : List ℕ) → length plan ≤ longestText → judged [] plan ≡ wrong (faultOf 1 false 1 0 0)
 empty-list = judging.empty-list
 

@@ -122,7 +122,8 @@ pub record RightBefore (list plan : List ℕ) (fault : Fault) (line : List ℕ) 
   pub before : judged list front ≡ right (fault .line - 1)
   pub place : (fault .from ≡ length front) × (fault .to ≡ length front + length line)
 
--- "the line at fault shown as a part of the text it stands in": it lies in the memory of that text, from the fault's place on where its places are
+-- "the line at fault shown as a part of the text it stands in": it lies in the memory of
+-- that text, from the fault's place on where its places are
 -- places of the text in order, and else it is the empty front
 abbrev pub PartShown : Fault → RefT (List ℕ) → RefT (List ℕ) → Type 0
 PartShown fault text part =

@@ -165,7 +165,8 @@ fn plan_fault(number: u32, line: u32, from: usize, to: usize) -> Judgement
 }
 
 // The loads of a plan, for a list that begins with this book and has orders of these hours: each plan line is noted, and the first earlier
-// load that it overlaps ends the search. For each order the plan line on which it stands is kept, for each chamber the last plan line with a load
+// load that it overlaps ends the search. For each order the plan line on which it
+// stands is kept, for each chamber the last plan line with a load
 // in it, and for each plan line the one before it in its chamber, 0 for none: the search goes from one to the next.
 fn judge_plan(plan: &[u8], book: Book, readies: &[u32], dues: &[u32]) -> Judgement
     requires { ⌜ (length (now readies) ≤ mostOrders) × (length (now dues) ≡ length (now readies)) ⌝ }

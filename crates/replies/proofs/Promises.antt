@@ -92,7 +92,8 @@ first-line-reply text number within fault = whole.faulty-reply text number withi
 pub empty-reply : ReplyTo 1 (Refused 1) (replyOf [])
 empty-reply = whole.refused-reply [] 1 refused-empty
 
--- any other the line 2 + k for the k-th line behind the first, k from 0, with its answer, and behind them the sum of taken and kept of the book past them all
+-- any other the line 2 + k for the k-th line behind the first, k from 0, with its answer, and behind them the sum of taken and kept of
+-- the book past them all
 pub list-reply :
     (text : List ℕ) (book : Book) → opening text ≡ right book
     → (replies : List (List ℕ)) × (sum : List ℕ) × (linesOf (replyOf text) ≡ replies ++ sum ∷ []) × (length replies ≡ length (orderLines text))
@@ -178,7 +179,8 @@ module _ (text : RefT (List ℕ)) where
           simp length-append at (ap length all-out),
         )
 
--- `begin`: nothing is over yet; the refusal and the line that it stands on, or none and the place behind the first line, line 2 and the book that is opened
+-- `begin`: nothing is over yet; the refusal and the line that it stands on, or none and the place behind the first line, line 2 and the
+-- book that is opened
 module _ (κs : Lfts 1) (text : RefT (List ℕ)) (reply : Reply) (after : _) (begun : begin.Learnt κs (text, tt) reply after) where
   pub begin-not-over : reply .over ≡ false
   begin-not-over = ap (λ (it : Reply). it .over) begun

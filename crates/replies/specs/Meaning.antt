@@ -41,7 +41,8 @@ pub record SumOf (taken kept : ℕ) (text : List ℕ) : Type 0 where
 pub data StartsPastLast : Answer → Type 0 where
   past : (chamber start : ℕ) → 999_999 < start → StartsPastLast (Yes chamber start)
 
--- a reply is written out piece by piece, from how far it has come to how far it comes: while it is not over a buffer of 48 bytes or more is filled,
+-- a reply is written out piece by piece, from how far it has come to how far it comes:
+-- while it is not over a buffer of 48 bytes or more is filled,
 -- as is said of filling, and what stands at its front is the next piece
 pub data WrittenOut (Fill : Reply → List ℕ → Filled → List ℕ → Type 0) : Reply → List (List ℕ) → Reply → Type 0 where
   nothing-more : (reply : Reply) → WrittenOut Fill reply [] reply

@@ -1,4 +1,5 @@
--- What the desk program prints: "line number, then `yes`, chamber and start; or `no`; or `bad` and the refusal number", and "`sum`, taken, kept". Assumes nothing.
+-- What the desk program prints: "line number, then `yes`, chamber and start; or `no`; or `bad` and the refusal number", and "`sum`,
+-- taken, kept". Assumes nothing.
 use Prim.Native.Nat.{ℕ, suc}
 use mathlib.Core.Bool.{Bool, true}
 use mathlib.Core.List.{List, [], _∷_, _++_}

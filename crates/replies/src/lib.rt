@@ -91,7 +91,8 @@ pub fn write_sum(taken: u32, kept: u32, buffer: &mut [u8]) -> Written
     write_line(sum, &own, buffer)
 }
 
-// How far a reply has come: what its list is refused by, 0 where it begins; the progress through the list; whether no line is left to be written.
+// How far a reply has come: what its list is refused by, 0 where it begins; the
+// progress through the list; whether no line is left to be written.
 pub struct Reply {
     pub refusal: u32,
     pub progress: Progress,
@@ -218,7 +219,8 @@ fn goes_on(filled: Filled, room: usize) -> bool
     !reply.over & (LINE_ROOM <= left)
 }
 
-// Fills a buffer with the next lines of a reply while one is left and there is room for any line: each is whole, and one that cannot be written is left out.
+// Fills a buffer with the next lines of a reply while one is left and there is room for any line: each is whole, and one that cannot be
+// written is left out.
 pub fn fill(text: &[u8], reply: Reply, buffer: &mut [u8]) -> Filled
     ensures { λ r. ⌜ Fills (now (text .entry)) reply (now (buffer .entry)) r (now (buffer .exit)) ⌝ }
 {

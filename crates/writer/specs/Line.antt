@@ -16,7 +16,8 @@ abbrev pub lineRoom : ℕ
 lineRoom = 48
 
 -- what stands at the front of a buffer once a field and the byte that stops it are put behind so many bytes of it:
--- "Each refusal returns its number", so a line that was refused stays refused; then what the field is refused by; then 7 where there is no room
+-- "Each refusal returns its number", so a line that was refused stays refused; then
+-- what the field is refused by; then 7 where there is no room
 unfoldable pub frontAfter : Read ℕ → Read (List ℕ) → ℕ → List ℕ → Read (List ℕ)
 frontAfter so-far field stop buffer = do
   at ← so-far

@@ -25,7 +25,8 @@ abbrev pub asLength : Written → Read ℕ
 asLength (Length length) = right length
 asLength (Refused number) = wrong number
 
--- the text that was written to a buffer: its front, as long as was answered; nothing where the writing was refused, or the buffer is shorter
+-- the text that was written to a buffer: its front, as long as was answered; nothing
+-- where the writing was refused, or the buffer is shorter
 unfoldable pub frontOf : ℕ → List ℕ → List ℕ
 frontOf count buffer = cond (leb count (length buffer)) (take count buffer) []
 

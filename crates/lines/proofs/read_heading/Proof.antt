@@ -1,4 +1,5 @@
--- `read_heading` refuses a line that has not its shape, and reads the fields of any other by the cut: the first refusal from the left is the answer, or chambers and run.
+-- `read_heading` refuses a line that has not its shape, and reads the fields of any other by the cut: the first refusal from the left is
+-- the answer, or chambers and run.
 use mathlib.Core.Path.{_≡_, sym, ap, _∙_}
 use mathlib.Core.List.{[], _∷_}
 use native.Mathlib.Omega.{arith}

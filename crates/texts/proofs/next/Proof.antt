@@ -1,5 +1,7 @@
--- `next` takes the walk apart, and hands out the part up to the place that `line_end` gives. All that is known of `line_end` and `part` is that they meet their contracts.
--- The walk is Copy: what it owns is had twice before each call and at the exit. Of the copies, text goes to each callee, one with the new number in the place of at is the result's walk, and one is kept whole for the parameter.
+-- `next` takes the walk apart, and hands out the part up to the place that `line_end` gives. All that is known of `line_end` and `part`
+-- is that they meet their contracts.
+-- The walk is Copy: what it owns is had twice before each call and at the exit. Of the copies, text goes to each callee, one with the new
+-- number in the place of at is the result's walk, and one is kept whole for the parameter.
 -- Assumes nothing.
 use mathlib.Core.Path.{_≡_, refl, ap}
 use Prim.Native.Nat.{ℕ, _<_, _^_}
@@ -189,26 +191,31 @@ module _ {M : Type 1} (𝓤 : URA M) (H : Heap 𝓤) (A : Atoms 𝓤) (W : Given
     walk wt =
         qed W (Tok ∷ ‵ (owns (B (κ, tt) ∷ []) (d, tt) (mach ∷ [], tt)) ∷ []) ∵ enter ! C Λ code.function (mach ∷ []) _ $
         alloc1 ! (λ l₀. alloc1 ! (λ l₁. alloc1 ! (λ l₂. alloc1 ! (λ l₃. alloc1 ! (λ l₄. alloc1 ! (λ l₅. alloc1 ! (λ l₆. alloc1 ! (λ l₇. alloc1 ! (λ l₈. alloc1 ! (λ l₉. alloc0 ! $ params1 ! $ pass1 ! (init ! 16 refl wt) $ pass0 ! $
-        -- the walk is taken apart for `line_end`: [room for _9; …; room for _8; …; room for _7; …; room for _6; …; room for _5; …; room for _4; …; room for _3; …; room for _2; …; _1; …; room for _0; …; the token; what the walk owns]
+        -- the walk is taken apart for `line_end`: [room for _9; …; room for _8; …; room for _7; …; room for _6; …; room for _5; …; room
+        -- for _4; …; room for _3; …; room for _2; …; _1; …; room for _0; …; the token; what the walk owns]
         assigns ! (of-opd ! (load ! (from ! (fld ! refl (stop !))) (look-in ! 16 (sub ! 0 refl (whole !))))) (from ! (stop !)) (init ! 10 refl (tt, wt .1 .0)) $
         assigns ! (of-opd ! (load ! (from ! (fld ! refl (stop !))) (look-in ! 16 (sub ! 1 refl (whole !))))) (from ! (stop !)) (init ! 8 refl (tt, wt .1 .1 .0)) $
         move ! (21 ∷ []) $ fsplit ! $ move ! (1 ∷ []) $ drop ! $ move ! (21 ∷ 0 ∷ []) $
         use2 W (raw (LineEnd 𝓤 H A mem run .pre to-end) ⊛ ‵ Own) (lends (LineEnd 𝓤 H A mem run .pre to-end) (asks-end (wt .1 .1 .0 .fits))) $ split ! $
-        -- [what `line_end` asks; what the walk owns; room for _9; …; room for _8; …; room for _7; …; room for _6; …; _5; …; _4; …; room for _3; …; room for _2; …; _1; …; room for _0; …]
+        -- [what `line_end` asks; what the walk owns; room for _9; …; room for _8; …; room for _7; …; room for _6; …; _5; …; _4; …; room
+        -- for _3; …; room for _2; …; _1; …; room for _0; …]
         calls-at ! fm (LineEnd 𝓤 H A mem run) known-end to-end (and-then ! (load ! (from ! (stop !)) (look ! 12 refl)) (and-then ! (load ! (from ! (stop !)) (look ! 10 refl)) (no-more !))) (λ u′.
         use1 W (later (some (λ (n : ℕ). (Tok ⊛ ‵ (usize .own n (u′ ∷ []))) ⊛ raw (ensured 𝓤 H A line-end.ended (line-end.clauses 𝓤 H A mem run) (κ, tt) (d .text, (d .at, tt)) tt n)))) (id⊢ 𝓤 _) $ await ! tt $ pick ! (λ n.
         split ! $ move ! (1 ∷ []) $ use1 W (raw (fact 𝓤 (Is-past n))) (end-said n) $ heard ! (Is-past n) (λ e′. split ! $ move ! (1 ∷ []) $
-        -- [the number; the token; what the walk owns; room for _9; …; room for _8; …; room for _7; …; room for _6; …; _5; …; _4; …; room for _3; …; room for _2; …; _1; …; room for _0; …]
+        -- [the number; the token; what the walk owns; room for _9; …; room for _8; …; room for _7; …; room for _6; …; _5; …; _4; …; room
+        -- for _3; …; room for _2; …; _1; …; room for _0; …]
         peeks ! usize (Is usize) (shows 𝓤 H A usize) n (u′ ∷ []) (λ is′.
         land ! (from ! (stop !)) (init ! 17 refl (uint-lawful 𝓤 H A W w64 .typed n _ is′ .0)) $ rewrite ! 17 (λ (x : Val). ‵ (fat fullShare (tyInt w64) l₂ 0 x)) (ap only (is′ .0)) refl $ drop ! $
         assigns ! (of-opd ! (load ! (from ! (fld ! refl (stop !))) (look-in ! 18 (sub ! 0 refl (whole !))))) (from ! (stop !)) (init ! 8 refl (tt, wt .1 .0)) $
         assigns ! (of-opd ! (load ! (from ! (fld ! refl (stop !))) (look-in ! 18 (sub ! 1 refl (whole !))))) (from ! (stop !)) (init ! 6 refl (tt, wt .1 .1 .0)) $
         use2 W (raw (Part 𝓤 H A mem run .pre (to-part n)) ⊛ ‵ Own) (lends (Part 𝓤 H A mem run .pre (to-part n)) (asks-part n (wt .1 .1 .0 .fits) (is′ .1))) $ split ! $
-        -- [what `part` asks; what the walk owns; room for _9; …; room for _8; …; _7; …; _6; …; _5; …; _4; …; room for _3; …; _2; …; _1; …; room for _0; …]
+        -- [what `part` asks; what the walk owns; room for _9; …; room for _8; …; _7; …; _6; …; _5; …; _4; …; room for _3; …; _2; …; _1;
+        -- …; room for _0; …]
         calls-at ! fm (Part 𝓤 H A mem run) known-part (to-part n) (and-then ! (load ! (from ! (stop !)) (look ! 8 refl)) (and-then ! (load ! (from ! (stop !)) (look ! 6 refl)) (and-then ! (load ! (from ! (stop !)) (look ! 16 refl)) (no-more !)))) (λ u.
         use1 W (later (some (λ (r : RefT (List ℕ)). (Tok ⊛ ‵ (R .own r (u ∷ []))) ⊛ raw (ensured 𝓤 H A part.ended (part.clauses 𝓤 H A mem run) (κ, tt) (d .text, (d .at, (n, tt))) tt r)))) (id⊢ 𝓤 _) $ await ! tt $ pick ! (λ r.
         split ! $ move ! (1 ∷ []) $ use1 W (raw (fact 𝓤 (Is-line n r))) (part-said n r) $ heard ! (Is-line n r) (λ e. split ! $ move ! (1 ∷ []) $
-        -- [the line; the token; what the walk owns; room for _9; …; room for _8; …; _7; …; _6; …; _5; …; _4; …; room for _3; …; _2; …; _1; …; room for _0; …]
+        -- [the line; the token; what the walk owns; room for _9; …; room for _8; …; _7; …; _6; …; _5; …; _4; …; room for _3; …; _2; …;
+        -- _1; …; room for _0; …]
         peeks ! R (Is R) (shows 𝓤 H A R) r (u ∷ []) (λ is.
         land ! (from ! (stop !)) (init ! 15 refl (shr-slice-lawful 𝓤 H A W erased κ u8 .typed r _ is .0)) $ rewrite ! 15 (λ (x : Val). ‵ (fat fullShare (sliceTy (tyRef erased imm (tyInt w8))) l₃ 0 x)) (ap only (shr-slice-tells (named 0) κ u8 r _ is)) refl $
         assigns ! (of-opd ! (load ! (from ! (fld ! refl (stop !))) (look-in ! 19 (sub ! 0 refl (whole !))))) (from ! (stop !)) (init ! 5 refl (tt, wt .1 .0)) $
