@@ -34,6 +34,7 @@ oracle list SEED                      writes the order list of this seed
 oracle plan SEED                      writes the plan of this seed, made for that list
 oracle pair-list SEED                 writes the list of this seed's pair for checkers
 oracle pair-plan SEED                 writes the plan of that pair
+oracle pair-cases N SEED              writes a case file of the short pairs of N seeds
 oracle noise LENGTH SEED              writes so many bytes of any value
 oracle coverage N SEED                counts what the lists of N seeds bring about
 oracle coverage-checker N SEED        counts what the pairs of N seeds bring about
@@ -56,6 +57,9 @@ fn main() -> ExitCode {
         ["plan", seed] => on_number(seed, |seed| print(&plans::plan(seed).text)),
         ["pair-list", seed] => on_number(seed, |seed| print(&pair(seed).list.text)),
         ["pair-plan", seed] => on_number(seed, |seed| print(&pair(seed).plan.text)),
+        ["pair-cases", count, seed] => on_numbers(count, seed, |count, seed| {
+            print(&cases::generated(count, seed))
+        }),
         ["noise", length, seed] => on_numbers(length, seed, |length, seed| {
             print(&noise::any_bytes(
                 &mut Chance::from_seed(seed),

@@ -20,12 +20,19 @@ use crate::desk::lines::{hour_field, lines, number_field, put_load};
 use crate::desk::lines::{read_heading, read_load, read_order, Load, LINE_END};
 use crate::desk::numbers::write_number;
 use crate::desk::refusal::Refusal;
+use crate::generate::pairs::{pair, Pair};
 
 /// The largest buffer that a case may ask for.
 const MOST_ROOM: u32 = 64;
 
 /// What stands in a buffer before anything is written to it.
 const UNTOUCHED: u8 = b'.';
+
+/// A generated list and its plan are taken for a case up to so many bytes.
+const LONGEST_GENERATED: usize = 400;
+
+/// A case file has at most so many bytes.
+const LARGEST_FILE: usize = 131_072;
 
 /// What is written for this case file. The last line gets a line end even if
 /// it came without one.
@@ -42,6 +49,30 @@ pub fn reply(file: &[u8]) -> Vec<u8> {
         reply.push(LINE_END);
     }
     reply
+}
+
+/// A case file of generated pairs: for each of so many seeds the checker's
+/// case of its list and plan, as long as both are short, since a case file is
+/// read whole. Its results have the line shown, which the checker program
+/// does not print.
+pub fn generated(count: u64, seed: u64) -> Vec<u8> {
+    let mut file = Vec::new();
+    for seed in seed..seed.saturating_add(count) {
+        let Pair { list, plan } = pair(seed);
+        if list.text.len() + plan.text.len() > LONGEST_GENERATED {
+            continue;
+        }
+        let mut case = b"checker ".to_vec();
+        write_case_text(&mut case, &list.text);
+        case.push(b' ');
+        write_case_text(&mut case, &plan.text);
+        case.push(LINE_END);
+        if file.len() + case.len() > LARGEST_FILE {
+            break;
+        }
+        file.extend_from_slice(&case);
+    }
+    file
 }
 
 /// The results of a case, or none if it is not as it should be.
