@@ -16,7 +16,7 @@ use Rattle.ground.proofs.Refusal.{never-right}
 use Rattle.ground.proofs.Promises.{spelled-exactly}
 use Rattle.fields.specs.Meaning.{isClean, allClean, Splits}
 use Rattle.fields.proofs.Promises.{splits-exactly}
-use Rattle.writer.specs.Line.{textsOf, lineOf}
+use Rattle.writer.specs.Line.{textsOf, lineMade}
 use Rattle.writer.proofs.Promises.{line-splits}
 use Rattle.planlines.proofs.RoundTrip.{clean-number}
 use Rattle.plans.specs.Judging.{judged, asJudged}
@@ -34,8 +34,8 @@ word-short true = omega arith
 word-short false = omega arith
 
 -- the line to be written is that of its fields
-pub judgement-of-fields : (judged : Judgement) → right (judgementLine judged) ≡ lineOf (judgementPut judged)
-unfolding outcomeLine textsOf lineOf
+pub judgement-of-fields : (judged : Judgement) → right (judgementLine judged) ≡ lineMade (judgementPut judged)
+unfolding outcomeLine textsOf lineMade
 judgement-of-fields (judgement.Right count) = refl
 judgement-of-fields (judgement.Wrong fault) = refl
 

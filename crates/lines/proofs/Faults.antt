@@ -13,7 +13,7 @@ use Rattle.ground.proofs.Refusal.{never-right, same-right, same-wrong}
 use Rattle.fields.specs.Fields.{fieldsOf, shapeOf}
 use Rattle.fields.proofs.Promises.{splits-exactly, has-fields, shape-ways}
 use Rattle.lines.specs.Reading.{lastGrower, readAll, lineOf, headingReaders, orderReaders, loadReaders, headingOf, orderOf, loadOf}
-use Rattle.lines.specs.Meaning.{Kind, the-word, FieldReads, AllRead, no-more, one-more, FirstFault, here, later, Shaped, LineReads, LineMakes, LineFault, misshapen, at-field, headingKinds, orderKinds, loadKinds, HeadingReads, HeadingFault, OrderReads, OrderFault, LoadReads, LoadFault}
+use Rattle.lines.specs.Meaning.{Kind, the-word, FieldReads, AllRead, no-more, one-more, FirstFieldFault, here, later, Shaped, LineReads, LineMakes, LineFault, misshapen, at-field, headingKinds, orderKinds, loadKinds, HeadingReads, HeadingFault, OrderReads, OrderFault, LoadReads, LoadFault}
 use Rattle.lines.specs.declared.Heading.{Heading}
 use Rattle.lines.specs.declared.Order.{Order}
 use Rattle.lines.specs.declared.Load.{Load}
@@ -68,7 +68,7 @@ then-read (more-go {reader} {readers} goes all) (text ∷ texts) numbers few e =
 -- the first fault of fields refuses them
 fault-then :
     {readers : List (List ℕ → Read ℕ)} {kinds : List Kind} → AllGo readers kinds → {texts : List (List ℕ)} {number : ℕ}
-    → FirstFault kinds texts number → readAll readers texts ≡ wrong number
+    → FirstFieldFault kinds texts number → readAll readers texts ≡ wrong number
 unfolding readAll
 fault-then (more-go goes all) {number = number} (here fault) = rw (goes .faults _ number .1 fault)
 fault-then (more-go goes all) (later value reads fault) = rw (goes .reads _ value .1 reads, fault-then all fault)
@@ -76,7 +76,7 @@ fault-then (more-go goes all) (later value reads fault) = rw (goes .reads _ valu
 -- and nothing else does
 then-fault :
     {readers : List (List ℕ → Read ℕ)} {kinds : List Kind} → AllGo readers kinds → (texts : List (List ℕ)) (number : ℕ)
-    → readAll readers texts ≡ wrong number → FirstFault kinds texts number
+    → readAll readers texts ≡ wrong number → FirstFieldFault kinds texts number
 unfolding readAll
 then-fault none-go texts number e = absurd (never-right (sym e))
 then-fault (more-go goes all) [] number e = absurd (never-right (sym e))
@@ -259,7 +259,7 @@ load-ranges count line values e =
     rw (← reads .made) (order .most, chamber .least, chamber .most, start .most)
 
 -- the fault of a line has a number from 1 to 4
-first-from : {kinds : List Kind} {fields : List (List ℕ)} {number : ℕ} → FirstFault kinds fields number → (1 ≤ number) × (number ≤ 4)
+first-from : {kinds : List Kind} {fields : List (List ℕ)} {number : ℕ} → FirstFieldFault kinds fields number → (1 ≤ number) × (number ≤ 4)
 first-from (here {kind} {field = field} fault) = fault-from kind field fault
 first-from (later value reads fault) = first-from fault
 

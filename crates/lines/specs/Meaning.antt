@@ -72,13 +72,13 @@ pub data AllRead : List Kind → List (List ℕ) → List ℕ → Type 0 where
       → AllRead kinds fields numbers → AllRead (kind ∷ kinds) (field ∷ fields) (number ∷ numbers)
 
 -- "then its fields from the left": the fault of the first, or the first reads and the others have this fault first
-pub data FirstFault : List Kind → List (List ℕ) → ℕ → Type 0 where
+pub data FirstFieldFault : List Kind → List (List ℕ) → ℕ → Type 0 where
   here :
       {kind : Kind} {kinds : List Kind} {field : List ℕ} {fields : List (List ℕ)} {number : ℕ} → FieldFault kind field number
-      → FirstFault (kind ∷ kinds) (field ∷ fields) number
+      → FirstFieldFault (kind ∷ kinds) (field ∷ fields) number
   later :
       {kind : Kind} {kinds : List Kind} {field : List ℕ} {fields : List (List ℕ)} {number : ℕ} (value : ℕ) → FieldReads kind field value
-      → FirstFault kinds fields number → FirstFault (kind ∷ kinds) (field ∷ fields) number
+      → FirstFieldFault kinds fields number → FirstFieldFault (kind ∷ kinds) (field ∷ fields) number
 
 -- a line has its shape: it splits into at least so many fields, and no more than there are kinds
 pub record Shaped (least : ℕ) (kinds : List Kind) (line : List ℕ) (fields : List (List ℕ)) : Type 0 where
@@ -101,7 +101,7 @@ pub record LineMakes {A : Type 0} (make : List ℕ → A) (least : ℕ) (kinds :
 -- "A line: 1 first, then its fields from the left": the first fault of a line
 pub data LineFault (least : ℕ) (kinds : List Kind) (line : List ℕ) : ℕ → Type 0 where
   misshapen : ((fields : List (List ℕ)) → Shaped least kinds line fields → ⊥) → LineFault least kinds line 1
-  at-field : {number : ℕ} (fields : List (List ℕ)) → Shaped least kinds line fields → FirstFault kinds fields number → LineFault least kinds line number
+  at-field : {number : ℕ} (fields : List (List ℕ)) → Shaped least kinds line fields → FirstFieldFault kinds fields number → LineFault least kinds line number
 
 -- "First line: the word `steam`, the number of chambers (1 to 8), the run in hours (1 to 9,999 hundredths)"
 abbrev pub headingKinds : List Kind

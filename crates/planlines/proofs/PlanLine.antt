@@ -12,14 +12,14 @@ use Rattle.ground.proofs.Tests.{by-test, both, first-of, second-of}
 use Rattle.ground.proofs.Range.{within-from, within-low, within-high}
 use Rattle.classes.specs.Classes.{comma}
 use Rattle.writer.specs.Writing.{hourText, hourWritten}
-use Rattle.writer.specs.Line.{textsOf, lineOf}
+use Rattle.writer.specs.Line.{textsOf, lineMade}
 use Rattle.writer.proofs.Line.{hour-within, hour-above}
 use Rattle.planlines.specs.Writing.{planText, placesChecked, planWritten, planFields}
 use Rattle.planlines.specs.Meaning.{InRange}
 
 -- the line to be written is that of its fields, once order line and chamber are checked
-pub line-of-fields : (order chamber start : ℕ) → planWritten order chamber start ≡ (placesChecked order chamber >> lineOf (planFields order chamber start))
-unfolding planWritten planText textsOf lineOf
+pub line-of-fields : (order chamber start : ℕ) → planWritten order chamber start ≡ (placesChecked order chamber >> lineMade (planFields order chamber start))
+unfolding planWritten planText textsOf lineMade
 line-of-fields order chamber start =
     by-test (leb start lastHour)
     (λ passed. rw (hour-within start (leb-true start lastHour passed)))

@@ -17,7 +17,7 @@ use Rattle.writer.specs.Writing.{asLength}
 use Rattle.writer.specs.Line.{lineRoom}
 use Rattle.writer.specs.declared.Written.{Written}
 use Rattle.orders.proofs.Places.{moves-on}
-use Rattle.replies.specs.Filling.{bytesIn, countIn, lineDue, pastLineDue, Put, PutBehind, goesOn, before, fillingUpTo, filling, Fills, leftOf}
+use Rattle.replies.specs.Filling.{bytesIn, countIn, lineDue, pastLineDue, Put, LineBehind, goesOn, ahead, fillingUpTo, filling, Fills, leftOf}
 use Rattle.replies.specs.declared.Reply.{Reply}
 use Rattle.replies.specs.declared.Filled.{Filled}
 
@@ -86,7 +86,7 @@ stops (suc count) text reply room off = rw off
 goes :
     (count : ℕ) (text : List ℕ) (reply : Reply) (room : ℕ) → goesOn reply room ≡ true
     → fillingUpTo (suc count) text reply room
-    ≡ before (bytesIn (lineDue text reply)) (fillingUpTo count text (pastLineDue text reply) (room - length (bytesIn (lineDue text reply))))
+    ≡ ahead (bytesIn (lineDue text reply)) (fillingUpTo count text (pastLineDue text reply) (room - length (bytesIn (lineDue text reply))))
 unfolding fillingUpTo
 goes count text reply room on = rw on
 
@@ -99,7 +99,7 @@ one-more (suc count) text reply room few =
     by-test (goesOn reply room)
     (λ on.
     goes (suc count) text reply room on
-    ∙ ap (before (bytesIn (lineDue text reply)))
+    ∙ ap (ahead (bytesIn (lineDue text reply)))
     (one-more count text (pastLineDue text reply) (room - length (bytesIn (lineDue text reply))) (omega (arith, falls text reply (is-on reply room on .0))))
     ∙ sym (goes count text reply room on))
     (λ off. stops (suc (suc count)) text reply room off ∙ sym (stops (suc count) text reply room off))
@@ -116,11 +116,11 @@ filling-done text reply room = stops (suc (suc (length text))) text reply room
 pub filling-on :
     (text : List ℕ) (reply : Reply) (room : ℕ) → goesOn reply room ≡ true
     → filling text reply room
-    ≡ before (bytesIn (lineDue text reply)) (filling text (pastLineDue text reply) (room - length (bytesIn (lineDue text reply))))
+    ≡ ahead (bytesIn (lineDue text reply)) (filling text (pastLineDue text reply) (room - length (bytesIn (lineDue text reply))))
 unfolding filling
 filling-on text reply room on =
     goes (suc (length text)) text reply room on
-    ∙ ap (before (bytesIn (lineDue text reply)))
+    ∙ ap (ahead (bytesIn (lineDue text reply)))
     (sym
     (one-more (suc (length text)) text (pastLineDue text reply) (room - length (bytesIn (lineDue text reply)))
     (omega (arith, falls text reply (is-on reply room on .0), left-most text reply))))
@@ -131,7 +131,7 @@ pub record Filling (text buffer : List ℕ) (begun : Reply) (held : List ℕ) (f
   pub counted : filled .length ≡ length front
   pub inside : filled .length ≤ length buffer
   pub holds : held ≡ onto front buffer
-  pub comes : filling text begun (length buffer) ≡ before front (filling text (filled .reply) (length buffer - filled .length))
+  pub comes : filling text begun (length buffer) ≡ ahead front (filling text (filled .reply) (length buffer - filled .length))
 
 -- at first nothing stands there
 pub nothing-filled : (text buffer : List ℕ) (reply : Reply) → Filling text buffer reply buffer (record { length = 0; reply = reply })
@@ -149,13 +149,13 @@ onto-behind :
 unfolding onto
 onto-behind front line buffer = rw (take-append-seam, drop-append-seam, drop-drop, append-assoc, length-append)
 
-before-before : (front line : List ℕ) (rest : List ℕ × Reply) → before front (before line rest) ≡ before (front ++ line) rest
+before-before : (front line : List ℕ) (rest : List ℕ × Reply) → ahead front (ahead line rest) ≡ ahead (front ++ line) rest
 before-before front line rest = ap (λ text. (text, rest .1)) (sym (append-assoc front line (rest .0)))
 
 -- a line more stands behind
 pub line-more :
     (text buffer : List ℕ) {begun : Reply} {held after : List ℕ} {filled next : Filled} → Filling text buffer begun held filled
-    → goesOn (filled .reply) (length held - filled .length) ≡ true → PutBehind text filled held next after → Filling text buffer begun after next
+    → goesOn (filled .reply) (length held - filled .length) ≡ true → LineBehind text filled held next after → Filling text buffer begun after next
 line-more text buffer {begun} {held} {after} {filled} {next} so-far on put =
     let line = bytesIn (lineDue text (filled .reply)) in
     let going : goesOn (filled .reply) (length buffer - filled .length) ≡ true = rw (held-length text buffer so-far) at on in
@@ -167,7 +167,7 @@ line-more text buffer {begun} {held} {after} {filled} {next} so-far on put =
       inside = omega (arith, put .counted, put .fits);
       holds = put .holds ∙ rw (so-far .counted, so-far .holds) (onto-behind (so-far .front) line buffer);
       comes =
-          so-far .comes ∙ ap (before (so-far .front)) (filling-on text (filled .reply) (length buffer - filled .length) going)
+          so-far .comes ∙ ap (ahead (so-far .front)) (filling-on text (filled .reply) (length buffer - filled .length) going)
           ∙ before-before (so-far .front) line (filling text (pastLineDue text (filled .reply)) (length buffer - filled .length - length line)) ∙ rw (put .comes, rest);
     }
 
@@ -178,7 +178,7 @@ pub filled-up :
 filled-up text buffer {begun} {held} {filled} so-far off =
     let stopped : goesOn (filled .reply) (length buffer - filled .length) ≡ false = rw (held-length text buffer so-far) at off in
     let all : filling text begun (length buffer) ≡ (so-far .front, filled .reply) =
-    so-far .comes ∙ ap (before (so-far .front)) (filling-done text (filled .reply) (length buffer - filled .length) stopped)
+    so-far .comes ∙ ap (ahead (so-far .front)) (filling-done text (filled .reply) (length buffer - filled .length) stopped)
     ∙ ap (λ text. (text, filled .reply)) (append-nil (so-far .front)) in
     record {
       counted = so-far .counted ∙ ap (λ outcome. length (outcome .0)) (sym all);

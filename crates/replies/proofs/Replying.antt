@@ -11,7 +11,7 @@ use Rattle.ground.specs.Limits.{lastHour}
 use Rattle.ground.proofs.Tests.{by-test, never-both}
 use Rattle.ground.specs.Text.{bytes}
 use Rattle.fields.specs.Meaning.{tabbed}
-use Rattle.writer.specs.Line.{lineRoom, bytesOfAll, textsOf, lineOf}
+use Rattle.writer.specs.Line.{lineRoom, bytesOfAll, textsOf, lineMade}
 use Rattle.writer.proofs.Line.{hour-within, hour-above}
 use Rattle.book.specs.declared.Answer.{Answer}
 use Rattle.book.specs.declared.Answer.the-variants.{Yes, No, Refused}
@@ -22,8 +22,8 @@ use Rattle.replies.specs.Steps.{replyPut, sumPut}
 use Rattle.replies.specs.Filling.{bytesIn}
 
 -- the lines to be written are those of their fields
-pub reply-of-fields : (line : ℕ) (answer : Answer) → replyWritten line answer ≡ lineOf (replyPut line answer)
-unfolding replyWritten replyLine textsOf lineOf
+pub reply-of-fields : (line : ℕ) (answer : Answer) → replyWritten line answer ≡ lineMade (replyPut line answer)
+unfolding replyWritten replyLine textsOf lineMade
 reply-of-fields line (Yes chamber start) =
     by-test (leb start lastHour)
     (λ passed. rw (passed, hour-within start (leb-true start lastHour passed)))
@@ -31,8 +31,8 @@ reply-of-fields line (Yes chamber start) =
 reply-of-fields line No = refl
 reply-of-fields line (Refused number) = refl
 
-pub sum-of-fields : (taken kept : ℕ) → right (sumLine taken kept) ≡ lineOf (sumPut taken kept)
-unfolding sumLine textsOf lineOf
+pub sum-of-fields : (taken kept : ℕ) → right (sumLine taken kept) ≡ lineMade (sumPut taken kept)
+unfolding sumLine textsOf lineMade
 sum-of-fields taken kept = refl
 
 -- the test of the start fails exactly for a yes that starts past the last hour

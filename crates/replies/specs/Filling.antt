@@ -37,8 +37,8 @@ abbrev pub replyBegun : List ℕ → Reply
 replyBegun text = replyFrom (begunBy text (opening text))
 
 -- a reply of which no line is left
-abbrev pub ended : Reply → Reply
-ended reply = record { refusal = reply .refusal; progress = reply .progress; over = true }
+abbrev pub finished : Reply → Reply
+finished reply = record { refusal = reply .refusal; progress = reply .progress; over = true }
 
 -- one that is past the line at its place
 abbrev pub stepped : List ℕ → Reply → Reply
@@ -57,7 +57,7 @@ lineDue text reply =
 
 -- the reply past it: "A bad first line prints `1→bad→N` and nothing more", and the sum is the last line
 unfoldable pub pastLineDue : List ℕ → Reply → Reply
-pastLineDue text reply = cond (eqb (reply .refusal) 0) (cond (ltb (reply .progress .at) (length text)) (stepped text reply) (ended reply)) (ended reply)
+pastLineDue text reply = cond (eqb (reply .refusal) 0) (cond (ltb (reply .progress .at) (length text)) (stepped text reply) (finished reply)) (finished reply)
 
 -- a line that was put to the front of a buffer, and the reply past it
 pub record Put (line : Read (List ℕ)) (past : Reply) (buffer : List ℕ) (filled : Filled) (held : List ℕ) : Type 0 where
@@ -67,7 +67,7 @@ pub record Put (line : Read (List ℕ)) (past : Reply) (buffer : List ℕ) (fill
   pub fits : length (bytesIn line) ≤ lineRoom
 
 -- a line that was put behind those that a buffer is filled with
-pub record PutBehind (text : List ℕ) (filled : Filled) (buffer : List ℕ) (next : Filled) (held : List ℕ) : Type 0 where
+pub record LineBehind (text : List ℕ) (filled : Filled) (buffer : List ℕ) (next : Filled) (held : List ℕ) : Type 0 where
   pub counted : next .length ≡ filled .length + length (bytesIn (lineDue text (filled .reply)))
   pub comes : next .reply ≡ pastLineDue text (filled .reply)
   pub holds : held ≡ take (filled .length) buffer ++ onto (bytesIn (lineDue text (filled .reply))) (drop (filled .length) buffer)
@@ -78,15 +78,15 @@ abbrev pub goesOn : Reply → ℕ → Bool
 goesOn reply room = not (reply .over) && leb lineRoom room
 
 -- a line before what follows it
-abbrev pub before : List ℕ → List ℕ × Reply → List ℕ × Reply
-before line rest = (line ++ rest .0, rest .1)
+abbrev pub ahead : List ℕ → List ℕ × Reply → List ℕ × Reply
+ahead line rest = (line ++ rest .0, rest .1)
 
 -- the lines that so much room is filled with, at most so many of them, and the reply past them
 unfoldable pub fillingUpTo : ℕ → List ℕ → Reply → ℕ → List ℕ × Reply
 fillingUpTo zero text reply room = ([], reply)
 fillingUpTo (suc count) text reply room =
     cond (goesOn reply room)
-    (before (bytesIn (lineDue text reply)) (fillingUpTo count text (pastLineDue text reply) (room - length (bytesIn (lineDue text reply)))))
+    (ahead (bytesIn (lineDue text reply)) (fillingUpTo count text (pastLineDue text reply) (room - length (bytesIn (lineDue text reply)))))
     ([], reply)
 
 -- all of them: no text has as many lines as this

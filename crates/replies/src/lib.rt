@@ -8,7 +8,7 @@ ghost use Rattle.ground.specs.Buffer.{fitted, lengthOf, bufferAfter};
 ghost use Rattle.writer.specs.Writing.{asLength};
 ghost use Rattle.writer.specs.Line.{Comes, bytesOfAll, lineRoom};
 ghost use Rattle.replies.specs.Replies.{sumLine, replyWritten};
-ghost use Rattle.replies.specs.Filling.{bytesIn, countIn, replyBegun, ended, stepped, stepDue, lineDue, pastLineDue, goesOn, Put, PutBehind, Fills};
+ghost use Rattle.replies.specs.Filling.{bytesIn, countIn, replyBegun, finished, stepped, stepDue, lineDue, pastLineDue, goesOn, Put, LineBehind, Fills};
 ghost use Rattle.replies.specs.Steps.{answerPut, replyPut, sumPut, answerRoom};
 use book::Answer;
 use orders::Progress;
@@ -120,7 +120,7 @@ pub fn begin(text: &[u8]) -> Reply
 
 // A reply of which no line is left.
 fn end(reply: Reply) -> Reply
-    ensures { λ r. ⌜ r ≡ ended reply ⌝ }
+    ensures { λ r. ⌜ r ≡ finished reply ⌝ }
 {
     let progress = reply.progress;
     Reply {
@@ -143,7 +143,7 @@ fn filled_by(written: Written, reply: Reply) -> Filled
 // Puts the one line of a list that does not begin to the front of a buffer.
 fn put_refusal(reply: Reply, buffer: &mut [u8]) -> Filled
     requires { ⌜ lineRoom ≤ length (now buffer) ⌝ }
-    ensures { λ r. ⌜ Put (replyWritten (reply .progress .line) (Answer.Refused (reply .refusal))) (ended reply) (now (buffer .entry)) r (now (buffer .exit)) ⌝ }
+    ensures { λ r. ⌜ Put (replyWritten (reply .progress .line) (Answer.Refused (reply .refusal))) (finished reply) (now (buffer .entry)) r (now (buffer .exit)) ⌝ }
 {
     let progress = reply.progress;
     let written = write_answer(progress.line, Answer::Refused(reply.refusal), buffer);
@@ -171,7 +171,7 @@ fn put_step(text: &[u8], reply: Reply, buffer: &mut [u8]) -> Filled
 // Puts the sum, behind which no line is left.
 fn put_last(reply: Reply, buffer: &mut [u8]) -> Filled
     requires { ⌜ lineRoom ≤ length (now buffer) ⌝ }
-    ensures { λ r. ⌜ Put (right (sumLine (reply .progress .book .taken) (reply .progress .book .kept))) (ended reply) (now (buffer .entry)) r (now (buffer .exit)) ⌝ }
+    ensures { λ r. ⌜ Put (right (sumLine (reply .progress .book .taken) (reply .progress .book .kept))) (finished reply) (now (buffer .entry)) r (now (buffer .exit)) ⌝ }
 {
     let progress = reply.progress;
     let book = progress.book;
@@ -197,7 +197,7 @@ fn put_next(text: &[u8], reply: Reply, buffer: &mut [u8]) -> Filled
 // Puts the next line of a reply behind those that a buffer is filled with.
 fn put_behind(text: &[u8], filled: Filled, buffer: &mut [u8]) -> Filled
     requires { ⌜ filled .length + lineRoom ≤ length (now buffer) ⌝ }
-    ensures { λ r. ⌜ PutBehind (now (text .entry)) filled (now (buffer .entry)) r (now (buffer .exit)) ⌝ }
+    ensures { λ r. ⌜ LineBehind (now (text .entry)) filled (now (buffer .entry)) r (now (buffer .exit)) ⌝ }
 {
     let at = filled.length;
     let reply = filled.reply;

@@ -21,7 +21,7 @@ use Rattle.texts.specs.Lines.{lineEnd}
 use Rattle.fields.specs.Fields.{tab}
 use Rattle.fields.specs.Meaning.{tabbed}
 use Rattle.writer.specs.Writing.{hourText, hourWritten}
-use Rattle.writer.specs.Line.{frontAfter, placeAfter, heldAfter, fieldsAfter, Comes, bytesOf, bytesOfAll, lineWith, textsOf, lineOf, lineIn}
+use Rattle.writer.specs.Line.{frontAfter, placeAfter, heldAfter, fieldsAfter, Comes, bytesOf, bytesOfAll, lineWith, textsOf, lineMade, lineIn}
 use Rattle.writer.proofs.Writing.{length-of-text, written-exactly}
 
 -- what a field put behind a line so far comes to
@@ -198,8 +198,8 @@ chained (right text) (next ∷ fields) front buffer stands room =
 pub line-put :
     (begun : Read (Unit {0})) (field : Read (List ℕ)) (fields : List (Read (List ℕ))) (buffer : List ℕ) {answer : Read ℕ} {held : List ℕ}
     → bytesOfAll (field ∷ fields) ≤ length buffer → Comes (begun >> right 0) (field ∷ fields) buffer answer held
-    → lineIn answer held ≡ (begun >> lineOf (field ∷ fields))
-unfolding lineIn lineOf
+    → lineIn answer held ≡ (begun >> lineMade (field ∷ fields))
+unfolding lineIn lineMade
 line-put (wrong number) field fields buffer room comes =
     rw (comes .place, comes .holds) (ap lineOver (refused-on number (field ∷ fields) buffer))
 line-put (right met) field fields buffer room comes =

@@ -20,7 +20,7 @@ use Rattle.ground.proofs.Outcome.{single-value}
 use Rattle.hours.specs.Reading.{hourOf}
 use Rattle.fields.specs.Meaning.{allClean, Splits}
 use Rattle.writer.specs.Writing.{hourText, hourWritten, asLength, textIn, frontOf}
-use Rattle.writer.specs.Line.{fieldsAfter, lineWith, lineOf, lineIn, bytesOfAll}
+use Rattle.writer.specs.Line.{fieldsAfter, lineWith, lineMade, lineIn, bytesOfAll}
 use Rattle.writer.specs.Meaning.{HourText, EndsIn, Writes, PutBehind}
 use Rattle.writer.specs.declared.Written.{Written}
 use Rattle.writer.specs.declared.Written.the-variants.{Length, Refused}
@@ -109,7 +109,7 @@ put-hour-puts κs so-far hour stop buffer answer after learnt =
 -- or what the first of them that is refused is refused by
 pub fields-put :
     (field : Read (List ℕ)) (fields : List (Read (List ℕ))) (buffer : List ℕ) → bytesOfAll (field ∷ fields) ≤ length buffer
-    → lineIn (fieldsAfter (right 0) (field ∷ fields) buffer .0) (fieldsAfter (right 0) (field ∷ fields) buffer .1) ≡ lineOf (field ∷ fields)
+    → lineIn (fieldsAfter (right 0) (field ∷ fields) buffer .0) (fieldsAfter (right 0) (field ∷ fields) buffer .1) ≡ lineMade (field ∷ fields)
 fields-put field fields buffer room = line.line-put (right tt) field fields buffer room (record { place = refl; holds = refl })
 
 -- and such a line splits into just these fields, where none has a tab or a line end in it

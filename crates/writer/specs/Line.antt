@@ -66,8 +66,8 @@ textsOf (field ∷ fields) = do
   right (text ∷ texts)
 
 -- the line to be written of them
-unfoldable pub lineOf : List (Read (List ℕ)) → Read (List ℕ)
-lineOf fields = do
+unfoldable pub lineMade : List (Read (List ℕ)) → Read (List ℕ)
+lineMade fields = do
   texts ← textsOf fields
   right (lineWith texts)
 

@@ -6,30 +6,6 @@ use borrow.Author.Needs.{needs}
 use Rattle.book.proofs.accepted.Statement.{statement}
 use Rattle.book.proofs.accepted.Tie as tie
 
-sub-at : tie.Need-sub-at
-sub-at c = search needs
-
-cast-at : tie.Need-cast-at
-cast-at c = search needs
-
-hold-requires : tie.Need-hold-requires
-hold-requires c κs = search needs
-
-add-free : tie.Need-add-free
-add-free c = search needs
-
-mul-free : tie.Need-mul-free
-mul-free c = search needs
-
-array-write-free : tie.Need-array-write-free
-array-write-free c = search needs
-
-add-taken : tie.Need-add-taken
-add-taken c = search needs
-
-add-kept : tie.Need-add-kept
-add-kept c = search needs
-
 returns : tie.Need-returns
 returns c =
     let held = c .before .before .before .hold .ensures in
@@ -50,4 +26,4 @@ returns c =
     }
 
 pub accepted-spec : {M : Type 1} → statement M
-accepted-spec = tie.close (tie.spec sub-at cast-at hold-requires add-free mul-free array-write-free add-taken add-kept returns)
+accepted-spec = tie.close (tie.spec (λ c. search needs) (λ c. search needs) (λ c κs. search needs) (λ c. search needs) (λ c. search needs) (λ c. search needs) (λ c. search needs) (λ c. search needs) returns)

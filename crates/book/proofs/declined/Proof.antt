@@ -4,11 +4,8 @@ use borrow.Author.Needs.{needs}
 use Rattle.book.proofs.declined.Statement.{statement}
 use Rattle.book.proofs.declined.Tie as tie
 
-add-taken : tie.Need-add-taken
-add-taken c = search needs
-
 returns : tie.Need-returns
 returns c = record { said = refl; next = refl }
 
 pub declined-spec : {M : Type 1} → statement M
-declined-spec = tie.close (tie.spec add-taken returns)
+declined-spec = tie.close (tie.spec (λ c. search needs) returns)

@@ -29,15 +29,6 @@ in-order true true false hours kept taken rest = refl
 in-order true false clocked hours kept taken rest = refl
 in-order false timed clocked hours kept taken rest = refl
 
-within-requires : tie.Need-within-requires
-within-requires c κs = search needs
-
-within-requires-2 : tie.Need-within-requires-2
-within-requires-2 c κs = search needs
-
-hours-are-sound-requires : tie.Need-hours-are-sound-requires
-hours-are-sound-requires c κs = search needs
-
 returns : tie.Need-returns
 unfolding isSound soundness allMet
 returns c =
@@ -48,4 +39,4 @@ returns c =
 
 pub is-sound-spec : {M : Type 1} → statement M
 is-sound-spec =
-    tie.close (tie.spec within-requires within-requires-2 hours-are-sound-requires returns)
+    tie.close (tie.spec (λ c κs. search needs) (λ c κs. search needs) (λ c κs. search needs) returns)

@@ -5,24 +5,6 @@ use Rattle.book.specs.Taking.{decided}
 use Rattle.book.proofs.refusal_of.Statement.{statement}
 use Rattle.book.proofs.refusal_of.Tie as tie
 
-check-requires : tie.Need-check-requires
-check-requires c κs = search needs
-
-check-requires-2 : tie.Need-check-requires-2
-check-requires-2 c κs = search needs
-
-is-sound-requires : tie.Need-is-sound-requires
-is-sound-requires c κs = search needs
-
-check-requires-3 : tie.Need-check-requires-3
-check-requires-3 c κs = search needs
-
-check-requires-4 : tie.Need-check-requires-4
-check-requires-4 c κs = search needs
-
-check-requires-5 : tie.Need-check-requires-5
-check-requires-5 c κs = search needs
-
 returns : tie.Need-returns
 unfolding decided
 returns c =
@@ -44,10 +26,10 @@ pub refusal-of-spec : {M : Type 1} → statement M
 refusal-of-spec =
     tie.close
     (tie.spec
-    check-requires
-    check-requires-2
-    is-sound-requires
-    check-requires-3
-    check-requires-4
-    check-requires-5
+    (λ c κs. search needs)
+    (λ c κs. search needs)
+    (λ c κs. search needs)
+    (λ c κs. search needs)
+    (λ c κs. search needs)
+    (λ c κs. search needs)
     returns)

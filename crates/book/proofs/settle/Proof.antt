@@ -3,14 +3,8 @@ use borrow.Author.Needs.{needs}
 use Rattle.book.proofs.settle.Statement.{statement}
 use Rattle.book.proofs.settle.Tie as tie
 
-enum-told : tie.Need-enum-told
-enum-told c = search needs
-
 declined-requires : tie.Need-declined-requires
 declined-requires c κs = rw (c .enum-told .given .1) at (c .before .before .pre)
-
-enum-known-choice : tie.Need-enum-known-choice
-enum-known-choice c = search needs
 
 accepted-requires : tie.Need-accepted-requires
 accepted-requires c κs = rw (c .before .choice .given .1) at (c .before .before .before .pre)
@@ -24,4 +18,4 @@ returns-2 c = rw (c .before .before .choice .given .1) (c .accepted .ensures)
 pub settle-spec : {M : Type 1} → statement M
 settle-spec =
     tie.close
-    (tie.spec enum-told declined-requires enum-known-choice accepted-requires returns returns-2)
+    (tie.spec (λ c. search needs) declined-requires (λ c. search needs) accepted-requires returns returns-2)

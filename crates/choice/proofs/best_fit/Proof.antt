@@ -26,27 +26,6 @@ returns c =
     let a = l .before .before .args in
     sym (choice-end (a .ready) (a .due) (a .run) (l .loop .chamber + 1) (l .loop .choice) (a .hours .now) (a .count) (l .loop .at) (simp length-take (omega arith))) ∙ l .loop .inv .3
 
-add-chamber : tie.Need-add-chamber Inv-loop μ-loop
-add-chamber c = search needs
-
-mul-offer : tie.Need-mul-offer Inv-loop μ-loop
-mul-offer c = search needs
-
-shared-slice-read-offer : tie.Need-shared-slice-read-offer Inv-loop μ-loop
-shared-slice-read-offer c = search needs
-
-offer-requires : tie.Need-offer-requires Inv-loop μ-loop
-offer-requires c κs = search needs
-
-better-requires : tie.Need-better-requires Inv-loop μ-loop
-better-requires c κs = search needs
-
-add-at : tie.Need-add-at Inv-loop μ-loop
-add-at c = search needs
-
-loop-less : tie.Need-loop-less Inv-loop μ-loop
-loop-less c = search needs
-
 loop-again : tie.Need-loop-again Inv-loop μ-loop
 loop-again c =
     let l = c .before .before .before .before .before in
@@ -72,12 +51,12 @@ best-fit-spec =
     μ-loop
     loop-holds
     returns
-    add-chamber
-    mul-offer
-    shared-slice-read-offer
-    offer-requires
-    better-requires
-    add-at
-    loop-less
+    (λ c. search needs)
+    (λ c. search needs)
+    (λ c. search needs)
+    (λ c κs. search needs)
+    (λ c κs. search needs)
+    (λ c. search needs)
+    (λ c. search needs)
     loop-again
     returns-2)

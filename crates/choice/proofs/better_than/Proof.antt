@@ -3,15 +3,6 @@ use borrow.Author.Needs.{needs}
 use Rattle.choice.proofs.better_than.Statement.{statement}
 use Rattle.choice.proofs.better_than.Tie as tie
 
-enum-told : tie.Need-enum-told
-enum-told c = search needs
-
-enum-known-other : tie.Need-enum-known-other
-enum-known-other c = search needs
-
-fuller-requires : tie.Need-fuller-requires
-fuller-requires c κs = search needs
-
 returns : tie.Need-returns
 returns c = rw (c .enum-told .given .1)
 
@@ -20,4 +11,4 @@ returns-2 c = rw (c .fuller .ensures, c .before .before .other .given .1)
 
 pub better-than-spec : {M : Type 1} → statement M
 better-than-spec =
-    tie.close (tie.spec enum-told enum-known-other fuller-requires returns returns-2)
+    tie.close (tie.spec (λ c. search needs) (λ c. search needs) (λ c κs. search needs) returns returns-2)

@@ -8,15 +8,6 @@ use Rattle.choice.specs.BestFit.{offer}
 use Rattle.choice.proofs.offer.Statement.{statement}
 use Rattle.choice.proofs.offer.Tie as tie
 
-later-requires : tie.Need-later-requires
-later-requires c κs = search needs
-
-cast-if1 : tie.Need-cast-if1
-cast-if1 c = search needs
-
-add-if1 : tie.Need-add-if1
-add-if1 c = search needs
-
 returns : tie.Need-returns
 unfolding offer
 returns c =
@@ -32,4 +23,4 @@ returns-2 c =
     rw (lt-leb (max (a .free) (a .ready) + a .run) (a .due) (omega (arith, e))) refl
 
 pub offer-spec : {M : Type 1} → statement M
-offer-spec = tie.close (tie.spec later-requires cast-if1 add-if1 returns returns-2)
+offer-spec = tie.close (tie.spec (λ c κs. search needs) (λ c. search needs) (λ c. search needs) returns returns-2)

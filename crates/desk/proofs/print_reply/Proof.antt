@@ -11,23 +11,11 @@ Inv-loop text reply₀ reply = Unit {0}
 abbrev μ-loop : tie.MeasureT-loop
 μ-loop text reply₀ reply = leftOf text reply
 
-begin-requires : tie.Need-begin-requires Inv-loop μ-loop
-begin-requires c κs = search needs
-
-loop-holds : tie.Need-loop-holds Inv-loop μ-loop
-loop-holds c = search needs
-
 print-some-requires : tie.Need-print-some-requires Inv-loop μ-loop
 print-some-requires c κs = not-true _ (c .if1 .taken)
 
 loop-less : tie.Need-loop-less Inv-loop μ-loop
 loop-less c = c .print-some .ensures
-
-loop-again : tie.Need-loop-again Inv-loop μ-loop
-loop-again c = search needs
-
-returns : tie.Need-returns Inv-loop μ-loop
-returns c = search needs
 
 pub print-reply-spec : {M : Type 1} → statement M
 print-reply-spec =
@@ -35,9 +23,9 @@ print-reply-spec =
     (tie.spec
     Inv-loop
     μ-loop
-    begin-requires
-    loop-holds
+    (λ c κs. search needs)
+    (λ c. search needs)
     print-some-requires
     loop-less
-    loop-again
-    returns)
+    (λ c. search needs)
+    (λ c. search needs))

@@ -8,26 +8,8 @@ use borrow.Author.Needs.{needs}
 use Rattle.desk.proofs.print_some.Statement.{statement}
 use Rattle.desk.proofs.print_some.Tie as tie
 
-large-buffer-requires : tie.Need-large-buffer-requires
-large-buffer-requires c κs = search needs
-
-slice-aggregate-fill : tie.Need-slice-aggregate-fill
-slice-aggregate-fill c = search needs
-
-fill-requires : tie.Need-fill-requires
-fill-requires c κs = search needs
-
-array-share-prefix-buffer : tie.Need-array-share-prefix-buffer
-array-share-prefix-buffer c = search needs
-
 slice-aggregate-print : tie.Need-slice-aggregate-print
 slice-aggregate-print c = piece-length _ _ _ (c .before .before .before .fill .ensures)
-
-print-requires : tie.Need-print-requires
-print-requires c κs = search needs
-
-lost-requires : tie.Need-lost-requires
-lost-requires c κs = search needs
 
 returns : tie.Need-returns
 returns c =
@@ -43,12 +25,12 @@ pub print-some-spec : {M : Type 1} → statement M
 print-some-spec =
     tie.close
     (tie.spec
-    large-buffer-requires
-    slice-aggregate-fill
-    fill-requires
-    array-share-prefix-buffer
+    (λ c κs. search needs)
+    (λ c. search needs)
+    (λ c κs. search needs)
+    (λ c. search needs)
     slice-aggregate-print
-    print-requires
-    lost-requires
+    (λ c κs. search needs)
+    (λ c κs. search needs)
     returns
     returns-2)

@@ -18,12 +18,6 @@ Inv-loop line found₀ end₀ found end =
 abbrev μ-loop : tie.MeasureT-loop
 μ-loop line found₀ end₀ found end = length line - end
 
-no-cut-requires : tie.Need-no-cut-requires Inv-loop μ-loop
-no-cut-requires c κs = search needs
-
-field-end-requires : tie.Need-field-end-requires Inv-loop μ-loop
-field-end-requires c κs = search needs
-
 loop-holds : tie.Need-loop-holds Inv-loop μ-loop
 unfolding cutOf
 loop-holds c =
@@ -31,24 +25,6 @@ loop-holds c =
     let end = c .field-end in
     rw (c .before .no-cut .ensures)
     (omega arith, ends-outside line 0 (end .result) (end .ensures), sym (cut-from-end line 0 (end .result) (end .ensures) noCut))
-
-ended-requires : tie.Need-ended-requires Inv-loop μ-loop
-ended-requires c κs = search needs
-
-add-next : tie.Need-add-next Inv-loop μ-loop
-add-next c = search needs
-
-shared-slice-read-class-of : tie.Need-shared-slice-read-class-of Inv-loop μ-loop
-shared-slice-read-class-of c = search needs
-
-class-of-requires : tie.Need-class-of-requires Inv-loop μ-loop
-class-of-requires c κs = search needs
-
-ends-line-requires : tie.Need-ends-line-requires Inv-loop μ-loop
-ends-line-requires c κs = search needs
-
-single-requires : tie.Need-single-requires Inv-loop μ-loop
-single-requires c κs = search needs
 
 returns : tie.Need-returns Inv-loop μ-loop
 returns c =
@@ -60,9 +36,6 @@ returns c =
     let stops = sym (c .before .before .ends-line .ensures ∙ ap endsLine (classed .class-of .ensures)) ∙ c .before .if1 .taken in
     c .single .ensures
     ∙ rw (added .ended .ensures) (sym (cut-stops line (l .loop .found) (l .loop .end) inside (l .loop .inv .1 inside) stops) ∙ l .loop .inv .2)
-
-field-end-requires-2 : tie.Need-field-end-requires-2 Inv-loop μ-loop
-field-end-requires-2 c κs = search needs
 
 loop-less : tie.Need-loop-less Inv-loop μ-loop
 loop-less c = omega (arith, c .field-end2 .ensures)
@@ -83,9 +56,6 @@ loop-again c =
       sym (cut-from-end line (l .loop .end + 1) (end .result) (end .ensures) _) ∙ sym on ∙ l .loop .inv .2,
     )
 
-single-requires-2 : tie.Need-single-requires-2 Inv-loop μ-loop
-single-requires-2 c κs = search needs
-
 returns-2 : tie.Need-returns-2 Inv-loop μ-loop
 returns-2 c =
     let l = c .before .before in
@@ -98,18 +68,18 @@ cut-line-spec =
     (tie.spec
     Inv-loop
     μ-loop
-    no-cut-requires
-    field-end-requires
+    (λ c κs. search needs)
+    (λ c κs. search needs)
     loop-holds
-    ended-requires
-    add-next
-    shared-slice-read-class-of
-    class-of-requires
-    ends-line-requires
-    single-requires
+    (λ c κs. search needs)
+    (λ c. search needs)
+    (λ c. search needs)
+    (λ c κs. search needs)
+    (λ c κs. search needs)
+    (λ c κs. search needs)
     returns
-    field-end-requires-2
+    (λ c κs. search needs)
     loop-less
     loop-again
-    single-requires-2
+    (λ c κs. search needs)
     returns-2)

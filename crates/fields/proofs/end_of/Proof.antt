@@ -16,12 +16,6 @@ returns-2 c =
     let a = c .before .before .before .args in
     rw (lt-ltb (a .place) (a .cut .count) (omega arith), le-ltb (a .place) mostFields (omega arith))
 
-mul-result : tie.Need-mul-result
-mul-result c = search needs
-
-array-read-result : tie.Need-array-read-result
-array-read-result c = search needs
-
 returns-3 : tie.Need-returns-3
 unfolding endOf
 returns-3 c =
@@ -29,4 +23,4 @@ returns-3 c =
     rw (lt-ltb (a .place) (a .cut .count) (omega arith), lt-ltb (a .place) mostFields (omega arith))
 
 pub end-of-spec : {M : Type 1} → statement M
-end-of-spec = tie.close (tie.spec returns returns-2 mul-result array-read-result returns-3)
+end-of-spec = tie.close (tie.spec returns returns-2 (λ c. search needs) (λ c. search needs) returns-3)

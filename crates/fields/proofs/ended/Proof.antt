@@ -6,20 +6,11 @@ use Rattle.fields.specs.Cutting.{mostFields}
 use Rattle.fields.proofs.ended.Statement.{statement}
 use Rattle.fields.proofs.ended.Tie as tie
 
-add-count : tie.Need-add-count
-add-count c = search needs
-
 returns : tie.Need-returns
 returns c = rw (le-ltb (c .before .before .args .found .count) mostFields (omega arith))
-
-mul-ends : tie.Need-mul-ends
-mul-ends c = search needs
-
-array-write-ends : tie.Need-array-write-ends
-array-write-ends c = search needs
 
 returns-2 : tie.Need-returns-2
 returns-2 c = rw (lt-ltb (c .before .before .args .found .count) mostFields (omega arith))
 
 pub ended-spec : {M : Type 1} → statement M
-ended-spec = tie.close (tie.spec add-count returns mul-ends array-write-ends returns-2)
+ended-spec = tie.close (tie.spec (λ c. search needs) returns (λ c. search needs) (λ c. search needs) returns-2)

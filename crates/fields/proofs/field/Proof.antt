@@ -9,12 +9,6 @@ use borrow.Author.Needs.{needs}
 use Rattle.fields.proofs.field.Statement.{statement}
 use Rattle.fields.proofs.field.Tie as tie
 
-end-of-requires : tie.Need-end-of-requires
-end-of-requires c κs = search needs
-
-slice-aggregate-result : tie.Need-slice-aggregate-result
-slice-aggregate-result c = search needs
-
 returns : tie.Need-returns
 returns c =
     let a = c .before .before .before .before .args in
@@ -34,33 +28,12 @@ returns-2 c =
     let same : end .result - 0 ≡ end .result = omega arith in
     (rw same at (there .0), (refl, omega (arith, there .1)))
 
-sub-end-of : tie.Need-sub-end-of
-sub-end-of c = search needs
-
-end-of-requires-2 : tie.Need-end-of-requires-2
-end-of-requires-2 c κs = search needs
-
-slice-aggregate-result-3 : tie.Need-slice-aggregate-result-3
-slice-aggregate-result-3 c = search needs
-
 returns-3 : tie.Need-returns-3
 returns-3 c =
     let a = c .before .before .before .before .before .before .before .args in
     let starts = starts-behind (a .cut) (a .place) (omega arith) in
     let none = no-part (a .line .now) (a .cut) (a .place) (λ inside. omega arith) in
     (sym (none .0), (refl, omega (arith, none .1)))
-
-add-start : tie.Need-add-start
-add-start c = search needs
-
-sub-result : tie.Need-sub-result
-sub-result c = search needs
-
-part-result-start : tie.Need-part-result-start
-part-result-start c = search needs
-
-part-result-end : tie.Need-part-result-end
-part-result-end c = search needs
 
 returns-4 : tie.Need-returns-4
 returns-4 c =
@@ -75,17 +48,17 @@ pub field-spec : {M : Type 1} → statement M
 field-spec =
     tie.close
     (tie.spec
-    end-of-requires
-    slice-aggregate-result
+    (λ c κs. search needs)
+    (λ c. search needs)
     returns
     slice-aggregate-result-2
     returns-2
-    sub-end-of
-    end-of-requires-2
-    slice-aggregate-result-3
+    (λ c. search needs)
+    (λ c κs. search needs)
+    (λ c. search needs)
     returns-3
-    add-start
-    sub-result
-    part-result-start
-    part-result-end
+    (λ c. search needs)
+    (λ c. search needs)
+    (λ c. search needs)
+    (λ c. search needs)
     returns-4)

@@ -15,24 +15,6 @@ use Rattle.judgements.proofs.put_fault.Tie as tie
 numbers-short : (s : tie.Start) → let fault = s .args .fault in (length (spelled (fault .number)) ≤ 10) × (length (spelled (fault .line)) ≤ 10)
 numbers-short s = let fault = s .args .fault in (number-short (fault .number) (omega arith), number-short (fault .line) (omega arith))
 
-slice-aggregate-put-word : tie.Need-slice-aggregate-put-word
-slice-aggregate-put-word c = search needs
-
-put-word-requires : tie.Need-put-word-requires
-put-word-requires c κs = search needs
-
-put-number-requires : tie.Need-put-number-requires
-put-number-requires c κs = search needs
-
-put-text-requires : tie.Need-put-text-requires
-put-text-requires c κs = search needs
-
-put-number-requires-2 : tie.Need-put-number-requires-2
-put-number-requires-2 c κs = search needs
-
-same-length : tie.Need-same-length
-same-length c = search needs
-
 returns : tie.Need-returns
 unfolding bytes bytesOfAll
 returns c =
@@ -51,10 +33,10 @@ pub put-fault-spec : {M : Type 1} → statement M
 put-fault-spec =
     tie.close
     (tie.spec
-    slice-aggregate-put-word
-    put-word-requires
-    put-number-requires
-    put-text-requires
-    put-number-requires-2
-    same-length
+    (λ c. search needs)
+    (λ c κs. search needs)
+    (λ c κs. search needs)
+    (λ c κs. search needs)
+    (λ c κs. search needs)
+    (λ c. search needs)
     returns)

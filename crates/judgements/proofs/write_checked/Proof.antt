@@ -5,15 +5,6 @@ use Rattle.judgements.proofs.JudgementLine.{checked-of}
 use Rattle.judgements.proofs.write_checked.Statement.{statement}
 use Rattle.judgements.proofs.write_checked.Tie as tie
 
-judge-requires : tie.Need-judge-requires
-judge-requires c κs = search needs
-
-write-judgement-requires : tie.Need-write-judgement-requires
-write-judgement-requires c κs = search needs
-
-same-length : tie.Need-same-length
-same-length c = search needs
-
 returns : tie.Need-returns
 returns c =
     let w = c .before .before in
@@ -22,4 +13,4 @@ returns c =
     rw (checked-of (now (a .list)) (now (a .plan)) (j .judge .result) (j .judge .ensures)) (w .write-judgement .ensures)
 
 pub write-checked-spec : {M : Type 1} → statement M
-write-checked-spec = tie.close (tie.spec judge-requires write-judgement-requires same-length returns)
+write-checked-spec = tie.close (tie.spec (λ c κs. search needs) (λ c κs. search needs) (λ c. search needs) returns)

@@ -6,21 +6,6 @@ use Rattle.judgements.proofs.JudgementLine.{judgement-of-fields}
 use Rattle.judgements.proofs.write_judgement.Statement.{statement}
 use Rattle.judgements.proofs.write_judgement.Tie as tie
 
-slice-aggregate-put-judgement : tie.Need-slice-aggregate-put-judgement
-slice-aggregate-put-judgement c = search needs
-
-put-judgement-requires : tie.Need-put-judgement-requires
-put-judgement-requires c κs = search needs
-
-slice-aggregate-write-line : tie.Need-slice-aggregate-write-line
-slice-aggregate-write-line c = search needs
-
-write-line-requires : tie.Need-write-line-requires
-write-line-requires c κs = search needs
-
-same-length : tie.Need-same-length
-same-length c = search needs
-
 returns : tie.Need-returns
 returns c =
     let w = c .before .before in
@@ -35,9 +20,9 @@ pub write-judgement-spec : {M : Type 1} → statement M
 write-judgement-spec =
     tie.close
     (tie.spec
-    slice-aggregate-put-judgement
-    put-judgement-requires
-    slice-aggregate-write-line
-    write-line-requires
-    same-length
+    (λ c. search needs)
+    (λ c κs. search needs)
+    (λ c. search needs)
+    (λ c κs. search needs)
+    (λ c. search needs)
     returns)

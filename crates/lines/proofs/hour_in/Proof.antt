@@ -8,18 +8,6 @@ use Rattle.lines.specs.Reading.{hourWithin}
 use Rattle.lines.proofs.hour_in.Statement.{statement}
 use Rattle.lines.proofs.hour_in.Tie as tie
 
-read-hour-requires : tie.Need-read-hour-requires
-read-hour-requires c κs = search needs
-
-enum-known-hour : tie.Need-enum-known-hour
-enum-known-hour c = search needs
-
-ranged-requires : tie.Need-ranged-requires
-ranged-requires c κs = search needs
-
-enum-known-refusal : tie.Need-enum-known-refusal
-enum-known-refusal c = search needs
-
 returns : tie.Need-returns
 unfolding hourWithin
 returns c = rw (← c .before .before .before .before .read-hour .ensures, c .before .before .hour .given .1) (c .ranged .ensures)
@@ -36,9 +24,9 @@ pub hour-in-spec : {M : Type 1} → statement M
 hour-in-spec =
     tie.close
     (tie.spec
-    read-hour-requires
-    enum-known-hour
-    ranged-requires
-    enum-known-refusal
+    (λ c κs. search needs)
+    (λ c. search needs)
+    (λ c κs. search needs)
+    (λ c. search needs)
     returns
     returns-2)

@@ -8,18 +8,6 @@ use Rattle.lines.specs.Reading.{plainWithin}
 use Rattle.lines.proofs.plain_in.Statement.{statement}
 use Rattle.lines.proofs.plain_in.Tie as tie
 
-read-plain-requires : tie.Need-read-plain-requires
-read-plain-requires c κs = search needs
-
-enum-known-number : tie.Need-enum-known-number
-enum-known-number c = search needs
-
-ranged-requires : tie.Need-ranged-requires
-ranged-requires c κs = search needs
-
-enum-known-refusal : tie.Need-enum-known-refusal
-enum-known-refusal c = search needs
-
 returns : tie.Need-returns
 unfolding plainWithin
 returns c = rw (← c .before .before .before .before .read-plain .ensures, c .before .before .number .given .1) (c .ranged .ensures)
@@ -36,9 +24,9 @@ pub plain-in-spec : {M : Type 1} → statement M
 plain-in-spec =
     tie.close
     (tie.spec
-    read-plain-requires
-    enum-known-number
-    ranged-requires
-    enum-known-refusal
+    (λ c κs. search needs)
+    (λ c. search needs)
+    (λ c κs. search needs)
+    (λ c. search needs)
     returns
     returns-2)

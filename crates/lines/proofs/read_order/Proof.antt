@@ -11,12 +11,6 @@ use Rattle.lines.proofs.LineReading.{outcome, refusalFrom, done, next, 
 use Rattle.lines.proofs.read_order.Statement.{statement}
 use Rattle.lines.proofs.read_order.Tie as tie
 
-cut-line-requires : tie.Need-cut-line-requires
-cut-line-requires c κs = search needs
-
-shaped-requires : tie.Need-shaped-requires
-shaped-requires c κs = search needs
-
 returns : tie.Need-returns
 unfolding orderOf
 returns c =
@@ -24,30 +18,6 @@ returns c =
     rw
     (line-misshapen 3 orderReaders (cut .before .before .args .line .now) (cut .cut-line .result) (cut .cut-line .ensures) (omega arith)
     (sym (c .before .shaped .ensures) ∙ not-true (c .before .shaped .result) (c .if1 .taken)))
-
-field-requires : tie.Need-field-requires
-field-requires c κs = search needs
-
-plain-in-requires : tie.Need-plain-in-requires
-plain-in-requires c κs = search needs
-
-field-requires-2 : tie.Need-field-requires-2
-field-requires-2 c κs = search needs
-
-hour-in-requires : tie.Need-hour-in-requires
-hour-in-requires c κs = search needs
-
-field-requires-3 : tie.Need-field-requires-3
-field-requires-3 c κs = search needs
-
-hour-in-requires-2 : tie.Need-hour-in-requires-2
-hour-in-requires-2 c κs = search needs
-
-first-requires : tie.Need-first-requires
-first-requires c κs = search needs
-
-first-requires-2 : tie.Need-first-requires-2
-first-requires-2 c κs = search needs
 
 -- past the shape, what the line comes to, by the refusal and the numbers
 comes-to :
@@ -82,16 +52,16 @@ pub read-order-spec : {M : Type 1} → statement M
 read-order-spec =
     tie.close
     (tie.spec
-    cut-line-requires
-    shaped-requires
+    (λ c κs. search needs)
+    (λ c κs. search needs)
     returns
-    field-requires
-    plain-in-requires
-    field-requires-2
-    hour-in-requires
-    field-requires-3
-    hour-in-requires-2
-    first-requires
-    first-requires-2
+    (λ c κs. search needs)
+    (λ c κs. search needs)
+    (λ c κs. search needs)
+    (λ c κs. search needs)
+    (λ c κs. search needs)
+    (λ c κs. search needs)
+    (λ c κs. search needs)
+    (λ c κs. search needs)
     returns-2
     returns-3)

@@ -6,12 +6,6 @@ use Rattle.lines.specs.Reading.{steam, steamAt}
 use Rattle.lines.proofs.steam_in.Statement.{statement}
 use Rattle.lines.proofs.steam_in.Tie as tie
 
-slice-aggregate-same-bytes : tie.Need-slice-aggregate-same-bytes
-slice-aggregate-same-bytes c = search needs
-
-same-bytes-requires : tie.Need-same-bytes-requires
-same-bytes-requires c κs = search needs
-
 returns : tie.Need-returns
 unfolding steam bytes steamAt
 returns c = rw (sym (c .before .same-bytes .ensures) ∙ c .if1 .taken)
@@ -23,4 +17,4 @@ returns-2 c = rw (sym (c .before .same-bytes .ensures) ∙ c .if1 .left)
 pub steam-in-spec : {M : Type 1} → statement M
 steam-in-spec =
     tie.close
-    (tie.spec slice-aggregate-same-bytes same-bytes-requires returns returns-2)
+    (tie.spec (λ c. search needs) (λ c κs. search needs) returns returns-2)

@@ -6,42 +6,6 @@ use borrow.Author.Needs.{needs}
 use Rattle.loads.proofs.load_refusal.Statement.{statement}
 use Rattle.loads.proofs.load_refusal.Tie as tie
 
-place-of-requires : tie.Need-place-of-requires
-place-of-requires c κs = search needs
-
-hour-at-requires : tie.Need-hour-at-requires
-hour-at-requires c κs = search needs
-
-hour-at-requires-2 : tie.Need-hour-at-requires-2
-hour-at-requires-2 c κs = search needs
-
-names-order-requires : tie.Need-names-order-requires
-names-order-requires c κs = search needs
-
-hour-at-requires-3 : tie.Need-hour-at-requires-3
-hour-at-requires-3 c κs = search needs
-
-cast-ended : tie.Need-cast-ended
-cast-ended c = search needs
-
-add-ended : tie.Need-add-ended
-add-ended c = search needs
-
-cast-ended-2 : tie.Need-cast-ended-2
-cast-ended-2 c = search needs
-
-check-requires : tie.Need-check-requires
-check-requires c κs = search needs
-
-check-requires-2 : tie.Need-check-requires-2
-check-requires-2 c κs = search needs
-
-check-requires-3 : tie.Need-check-requires-3
-check-requires-3 c κs = search needs
-
-check-requires-4 : tie.Need-check-requires-4
-check-requires-4 c κs = search needs
-
 returns : tie.Need-returns
 unfolding loadAsked
 returns c =
@@ -67,16 +31,16 @@ pub load-refusal-spec : {M : Type 1} → statement M
 load-refusal-spec =
     tie.close
     (tie.spec
-    place-of-requires
-    hour-at-requires
-    hour-at-requires-2
-    names-order-requires
-    hour-at-requires-3
-    cast-ended
-    add-ended
-    cast-ended-2
-    check-requires
-    check-requires-2
-    check-requires-3
-    check-requires-4
+    (λ c κs. search needs)
+    (λ c κs. search needs)
+    (λ c κs. search needs)
+    (λ c κs. search needs)
+    (λ c κs. search needs)
+    (λ c. search needs)
+    (λ c. search needs)
+    (λ c. search needs)
+    (λ c κs. search needs)
+    (λ c κs. search needs)
+    (λ c κs. search needs)
+    (λ c κs. search needs)
     returns)

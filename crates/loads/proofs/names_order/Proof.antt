@@ -5,9 +5,6 @@ use Rattle.loads.proofs.Checks.{names-within}
 use Rattle.loads.proofs.names_order.Statement.{statement}
 use Rattle.loads.proofs.names_order.Tie as tie
 
-place-of-requires : tie.Need-place-of-requires
-place-of-requires c κs = search needs
-
 add-result : tie.Need-add-result
 add-result c = omega (arith, c .place-of .ensures)
 
@@ -15,4 +12,4 @@ returns : tie.Need-returns
 returns c = let a = c .before .args in rw (c .place-of .ensures) (names-within (a .order) (a .count))
 
 pub names-order-spec : {M : Type 1} → statement M
-names-order-spec = tie.close (tie.spec place-of-requires add-result returns)
+names-order-spec = tie.close (tie.spec (λ c κs. search needs) add-result returns)

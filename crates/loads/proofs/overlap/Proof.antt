@@ -8,14 +8,8 @@ use Rattle.loads.proofs.overlap.Tie as tie
 returns : tie.Need-returns
 returns c = let a = c .before .args in rw (ne-eqb (a .chamber) (a .other) (λ same. omega (arith, c .if1 .taken)))
 
-add-before : tie.Need-add-before
-add-before c = search needs
-
-add-behind : tie.Need-add-behind
-add-behind c = search needs
-
 returns-2 : tie.Need-returns-2
 returns-2 c = let a = c .before .args in rw (eq-eqb (a .chamber) (a .other) (omega (arith, c .if1 .left)))
 
 pub overlap-spec : {M : Type 1} → statement M
-overlap-spec = tie.close (tie.spec returns add-before add-behind returns-2)
+overlap-spec = tie.close (tie.spec returns (λ c. search needs) (λ c. search needs) returns-2)

@@ -9,31 +9,13 @@ use borrow.Author.Needs.{needs}
 use Rattle.orders.proofs.begin.Statement.{statement}
 use Rattle.orders.proofs.begin.Tie as tie
 
-not-begun-requires : tie.Need-not-begun-requires
-not-begun-requires c κs = search needs
-
 returns : tie.Need-returns
 returns c = rw (too-long (c .before .before .before .args .text .now) (omega (arith, c .before .if1 .taken))) (c .not-begun .ensures)
-
-line-at-requires : tie.Need-line-at-requires
-line-at-requires c κs = search needs
-
-read-heading-requires : tie.Need-read-heading-requires
-read-heading-requires c κs = search needs
-
-enum-known-heading : tie.Need-enum-known-heading
-enum-known-heading c = search needs
 
 begun-with-requires : tie.Need-begun-with-requires
 begun-with-requires c κs =
     let k = c .before .before .before in
     rw (← k .before .line-at .ensures .0, ← k .read-heading .ensures, c .before .heading .given .1)
-
-enum-known-number : tie.Need-enum-known-number
-enum-known-number c = search needs
-
-not-begun-requires-2 : tie.Need-not-begun-requires-2
-not-begun-requires-2 c κs = search needs
 
 returns-2 : tie.Need-returns-2
 returns-2 c =
@@ -52,13 +34,13 @@ pub begin-spec : {M : Type 1} → statement M
 begin-spec =
     tie.close
     (tie.spec
-    not-begun-requires
+    (λ c κs. search needs)
     returns
-    line-at-requires
-    read-heading-requires
-    enum-known-heading
+    (λ c κs. search needs)
+    (λ c κs. search needs)
+    (λ c. search needs)
     begun-with-requires
-    enum-known-number
-    not-begun-requires-2
+    (λ c. search needs)
+    (λ c κs. search needs)
     returns-2
     returns-3)

@@ -4,16 +4,10 @@ use borrow.Author.Needs.{needs}
 use Rattle.orders.proofs.begun_with.Statement.{statement}
 use Rattle.orders.proofs.begun_with.Tie as tie
 
-open-requires : tie.Need-open-requires
-open-requires c κs = search needs
-
-line-end-requires : tie.Need-line-end-requires
-line-end-requires c κs = search needs
-
 returns : tie.Need-returns
 returns c =
     let k = c .before .before in
     rw (c .line-end .ensures, k .open .ensures, heading-opens _ _ (k .before .before .pre))
 
 pub begun-with-spec : {M : Type 1} → statement M
-begun-with-spec = tie.close (tie.spec open-requires line-end-requires returns)
+begun-with-spec = tie.close (tie.spec (λ c κs. search needs) (λ c κs. search needs) returns)

@@ -5,28 +5,10 @@ use borrow.Author.Needs.{needs}
 use Rattle.orders.proofs.next.Statement.{statement}
 use Rattle.orders.proofs.next.Tie as tie
 
-line-at-requires : tie.Need-line-at-requires
-line-at-requires c κs = search needs
-
 add-end : tie.Need-add-end
 add-end c =
     let start = c .before .before .args in
     rw (c .line-at .ensures .0) (omega (arith, past-is (start .text .now) (start .progress .at), not-beyond (start .text .now) (start .progress .at)))
-
-read-order-requires : tie.Need-read-order-requires
-read-order-requires c κs = search needs
-
-enum-known-order : tie.Need-enum-known-order
-enum-known-order c = search needs
-
-booked-requires : tie.Need-booked-requires
-booked-requires c κs = search needs
-
-enum-known-number : tie.Need-enum-known-number
-enum-known-number c = search needs
-
-passed-requires : tie.Need-passed-requires
-passed-requires c κs = search needs
 
 returns : tie.Need-returns
 returns c =
@@ -54,12 +36,12 @@ pub next-spec : {M : Type 1} → statement M
 next-spec =
     tie.close
     (tie.spec
-    line-at-requires
+    (λ c κs. search needs)
     add-end
-    read-order-requires
-    enum-known-order
-    booked-requires
-    enum-known-number
-    passed-requires
+    (λ c κs. search needs)
+    (λ c. search needs)
+    (λ c κs. search needs)
+    (λ c. search needs)
+    (λ c κs. search needs)
     returns
     returns-2)

@@ -4,11 +4,8 @@ use borrow.Author.Needs.{needs}
 use Rattle.orders.proofs.not_begun.Statement.{statement}
 use Rattle.orders.proofs.not_begun.Tie as tie
 
-open-requires : tie.Need-open-requires
-open-requires c κs = search needs
-
 returns : tie.Need-returns
 returns c = rw (c .before .open .ensures, unopened)
 
 pub not-begun-spec : {M : Type 1} → statement M
-not-begun-spec = tie.close (tie.spec open-requires returns)
+not-begun-spec = tie.close (tie.spec (λ c κs. search needs) returns)

@@ -4,11 +4,8 @@ use borrow.Author.Needs.{needs}
 use Rattle.orders.proofs.passed.Statement.{statement}
 use Rattle.orders.proofs.passed.Tie as tie
 
-past-requires : tie.Need-past-requires
-past-requires c κs = search needs
-
 returns : tie.Need-returns
 returns c = (refl, refl, c .past .ensures)
 
 pub passed-spec : {M : Type 1} → statement M
-passed-spec = tie.close (tie.spec past-requires returns)
+passed-spec = tie.close (tie.spec (λ c κs. search needs) returns)

@@ -28,12 +28,6 @@ both-tested :
     (c .before .within .result && c .within2 .result) ≡ (within firstOrderLine lastOrderLine (a .order) && within 1 mostChambers (a .chamber))
 both-tested c = rw (c .before .within .ensures, c .within2 .ensures)
 
-within-requires : tie.Need-within-requires
-within-requires c κs = search needs
-
-within-requires-2 : tie.Need-within-requires-2
-within-requires-2 c κs = search needs
-
 returns : tie.Need-returns
 returns c =
     let a = c .before .before .before .args in
@@ -45,4 +39,4 @@ returns-2 c =
     failed (within firstOrderLine lastOrderLine (a .order)) (within 1 mostChambers (a .chamber)) (sym (both-tested (c .before)) ∙ c .if1 .left)
 
 pub begin-plan-line-spec : {M : Type 1} → statement M
-begin-plan-line-spec = tie.close (tie.spec within-requires within-requires-2 returns returns-2)
+begin-plan-line-spec = tie.close (tie.spec (λ c κs. search needs) (λ c κs. search needs) returns returns-2)

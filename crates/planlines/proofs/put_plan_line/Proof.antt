@@ -4,18 +4,6 @@ use Rattle.writer.proofs.Line.{then-put, last-put}
 use Rattle.planlines.proofs.put_plan_line.Statement.{statement}
 use Rattle.planlines.proofs.put_plan_line.Tie as tie
 
-put-number-requires : tie.Need-put-number-requires
-put-number-requires c κs = search needs
-
-put-number-requires-2 : tie.Need-put-number-requires-2
-put-number-requires-2 c κs = search needs
-
-put-hour-requires : tie.Need-put-hour-requires
-put-hour-requires c κs = search needs
-
-same-length : tie.Need-same-length
-same-length c = search needs
-
 returns : tie.Need-returns
 returns c =
     let timed = c .before .before in
@@ -26,4 +14,4 @@ returns c =
 pub put-plan-line-spec : {M : Type 1} → statement M
 put-plan-line-spec =
     tie.close
-    (tie.spec put-number-requires put-number-requires-2 put-hour-requires same-length returns)
+    (tie.spec (λ c κs. search needs) (λ c κs. search needs) (λ c κs. search needs) (λ c. search needs) returns)

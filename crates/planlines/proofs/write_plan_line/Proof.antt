@@ -9,24 +9,6 @@ use Rattle.planlines.proofs.PlanLine.{line-of-fields}
 use Rattle.planlines.proofs.write_plan_line.Statement.{statement}
 use Rattle.planlines.proofs.write_plan_line.Tie as tie
 
-begin-plan-line-requires : tie.Need-begin-plan-line-requires
-begin-plan-line-requires c κs = search needs
-
-slice-aggregate-put-plan-line : tie.Need-slice-aggregate-put-plan-line
-slice-aggregate-put-plan-line c = search needs
-
-put-plan-line-requires : tie.Need-put-plan-line-requires
-put-plan-line-requires c κs = search needs
-
-slice-aggregate-write-line : tie.Need-slice-aggregate-write-line
-slice-aggregate-write-line c = search needs
-
-write-line-requires : tie.Need-write-line-requires
-write-line-requires c κs = search needs
-
-same-length : tie.Need-same-length
-same-length c = search needs
-
 returns : tie.Need-returns
 unfolding bytesOfAll
 returns c =
@@ -47,10 +29,10 @@ pub write-plan-line-spec : {M : Type 1} → statement M
 write-plan-line-spec =
     tie.close
     (tie.spec
-    begin-plan-line-requires
-    slice-aggregate-put-plan-line
-    put-plan-line-requires
-    slice-aggregate-write-line
-    write-line-requires
-    same-length
+    (λ c κs. search needs)
+    (λ c. search needs)
+    (λ c κs. search needs)
+    (λ c. search needs)
+    (λ c κs. search needs)
+    (λ c. search needs)
     returns)

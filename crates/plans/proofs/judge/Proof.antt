@@ -9,20 +9,11 @@ use Rattle.plans.proofs.Texts.{list-nine, plan-nine, first-line-faulty,
 use Rattle.plans.proofs.judge.Statement.{statement}
 use Rattle.plans.proofs.judge.Tie as tie
 
-begin-requires : tie.Need-begin-requires
-begin-requires c κs = search needs
-
-list-fault-requires : tie.Need-list-fault-requires
-list-fault-requires c κs = search needs
-
 returns : tie.Need-returns
 returns c =
     let k = c .before .before in
     let a = k .before .before .before .args in
     c .list-fault .ensures ∙ sym (list-nine (a .list .now) (a .plan .now) (k .begin .result) (k .begin .ensures) (omega (arith, c .before .if1 .taken)))
-
-plan-fault-requires : tie.Need-plan-fault-requires
-plan-fault-requires c κs = search needs
 
 returns-2 : tie.Need-returns-2
 returns-2 c =
@@ -31,12 +22,6 @@ returns-2 c =
     let a = k .before .before .before .args in
     c .plan-fault .ensures
     ∙ sym (plan-nine (a .list .now) (a .plan .now) (k .begin .result) (k .begin .ensures) (e .if1 .left) (omega (arith, c .before .if2 .taken)))
-
-line-end-requires : tie.Need-line-end-requires
-line-end-requires c κs = search needs
-
-list-fault-requires-2 : tie.Need-list-fault-requires-2
-list-fault-requires-2 c κs = search needs
 
 returns-3 : tie.Need-returns-3
 returns-3 c =
@@ -72,13 +57,13 @@ pub judge-spec : {M : Type 1} → statement M
 judge-spec =
     tie.close
     (tie.spec
-    begin-requires
-    list-fault-requires
+    (λ c κs. search needs)
+    (λ c κs. search needs)
     returns
-    plan-fault-requires
+    (λ c κs. search needs)
     returns-2
-    line-end-requires
-    list-fault-requires-2
+    (λ c κs. search needs)
+    (λ c κs. search needs)
     returns-3
     judge-with-requires
     returns-4)

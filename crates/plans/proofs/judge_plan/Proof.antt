@@ -49,16 +49,10 @@ loaded-at n =
     let p = end .before .before in
     loaded-line (p .before .before .before .before .before .args .plan .now) (p .plan .at) (end .line-end .result) (end .line-end .ensures) (n .note-load .ensures)
 
-hold-requires : tie.Need-hold-requires Inv-loop μ-loop Inv-plan μ-plan
-hold-requires c κs = search needs
-
 plan-holds : tie.Need-plan-holds Inv-loop μ-loop Inv-plan μ-plan
 plan-holds c =
     let a = c .before .before .before .before .args in
     reached-top (a .plan .now) (a .book) (a .readies .now) (a .dues .now) _ _ _ _ (refl, refl, refl, refl) (zeros-at mostOrders) (zeros-at mostChambers)
-
-line-end-requires : tie.Need-line-end-requires Inv-loop μ-loop Inv-plan μ-plan
-line-end-requires c κs = search needs
 
 -- the line at the place is a part of the plan
 inside :
@@ -75,15 +69,6 @@ part-note-load-start c = omega (arith, inside c .0)
 
 part-note-load-end : tie.Need-part-note-load-end Inv-loop μ-loop Inv-plan μ-plan
 part-note-load-end c = omega (arith, inside c .1)
-
-slice-aggregate-note-load : tie.Need-slice-aggregate-note-load Inv-loop μ-loop Inv-plan μ-plan
-slice-aggregate-note-load c = search needs
-
-note-load-requires : tie.Need-note-load-requires Inv-loop μ-loop Inv-plan μ-plan
-note-load-requires c κs = search needs
-
-plan-fault-requires : tie.Need-plan-fault-requires Inv-loop μ-loop Inv-plan μ-plan
-plan-fault-requires c κs = search needs
 
 returns : tie.Need-returns Inv-loop μ-loop Inv-plan μ-plan
 returns c =
@@ -144,9 +129,6 @@ mul-overlap c = omega (arith, earlier-at c .1)
 array-read-overlap : tie.Need-array-read-overlap Inv-loop μ-loop Inv-plan μ-plan
 array-read-overlap c = omega (arith, earlier-at c .1)
 
-overlap-requires : tie.Need-overlap-requires Inv-loop μ-loop Inv-plan μ-plan
-overlap-requires c κs = search needs
-
 mul-earlier : tie.Need-mul-earlier Inv-loop μ-loop Inv-plan μ-plan
 mul-earlier c = omega (arith, earlier-at (c .before .before) .1)
 
@@ -172,9 +154,6 @@ loop-again c =
     let pre = p .before .before .before .before .before .pre in
     earlier-on (reached-at p) (pre .0 .1) (pre .0 .0) (pre .1) (n .note-load .result) (loaded-at n) (omega (arith, s .before .before .if1 .left))
     _ (l .before .loop .earlier) (p .before .hold .ensures) (l .before .loop .inv) (l .loop-test .taken) (sym (c .before .overlap .ensures) ∙ c .if2 .left)
-
-place-of-requires : tie.Need-place-of-requires Inv-loop μ-loop Inv-plan μ-plan
-place-of-requires c κs = search needs
 
 -- there is room for the load, and for the line of its order
 room-at :
@@ -247,12 +226,6 @@ sub-loads c = omega (arith, reached-at (c .before .before) .counted)
 returns-2 : tie.Need-returns-2 Inv-loop μ-loop Inv-plan μ-plan
 returns-2 c = sym (reached-end (reached-at (c .before .before)) (omega arith))
 
-line-end-requires-2 : tie.Need-line-end-requires-2 Inv-loop μ-loop Inv-plan μ-plan
-line-end-requires-2 c κs = search needs
-
-plan-fault-requires-2 : tie.Need-plan-fault-requires-2 Inv-loop μ-loop Inv-plan μ-plan
-plan-fault-requires-2 c κs = search needs
-
 returns-3 : tie.Need-returns-3 Inv-loop μ-loop Inv-plan μ-plan
 returns-3 c =
     let e = c .before .before in
@@ -277,15 +250,15 @@ judge-plan-spec =
     μ-loop
     Inv-plan
     μ-plan
-    hold-requires
+    (λ c κs. search needs)
     plan-holds
-    line-end-requires
+    (λ c κs. search needs)
     sub-note-load
     part-note-load-start
     part-note-load-end
-    slice-aggregate-note-load
-    note-load-requires
-    plan-fault-requires
+    (λ c. search needs)
+    (λ c κs. search needs)
+    (λ c κs. search needs)
     returns
     sub-chamber
     cast-chamber
@@ -296,12 +269,12 @@ judge-plan-spec =
     cast-there
     mul-overlap
     array-read-overlap
-    overlap-requires
+    (λ c κs. search needs)
     mul-earlier
     array-read-earlier
     loop-less
     loop-again
-    place-of-requires
+    (λ c κs. search needs)
     mul-lines
     array-write-lines
     sub-place
@@ -317,6 +290,6 @@ judge-plan-spec =
     plan-again
     sub-loads
     returns-2
-    line-end-requires-2
-    plan-fault-requires-2
+    (λ c κs. search needs)
+    (λ c κs. search needs)
     returns-3)

@@ -11,12 +11,6 @@ use Rattle.plans.proofs.Texts.{orders-begun, begins, chambers-most, lis
 use Rattle.plans.proofs.judge_with.Statement.{statement}
 use Rattle.plans.proofs.judge_with.Tie as tie
 
-slice-aggregate-read-orders : tie.Need-slice-aggregate-read-orders
-slice-aggregate-read-orders c = search needs
-
-slice-aggregate-read-orders-2 : tie.Need-slice-aggregate-read-orders-2
-slice-aggregate-read-orders-2 c = search needs
-
 read-orders-requires : tie.Need-read-orders-requires
 read-orders-requires c κs =
     let start = c .before .before .before .before in
@@ -37,14 +31,8 @@ returns c =
     let a = k .before .before .before .before .before .args in
     list-faulty (a .list .now) (a .plan .now) (a .begun .book) (k .read-orders .result) _ _ (are-at k) (λ none. omega (arith, c .if1 .taken))
 
-array-share-prefix-readies : tie.Need-array-share-prefix-readies
-array-share-prefix-readies c = search needs
-
 slice-aggregate-judge-plan : tie.Need-slice-aggregate-judge-plan
 slice-aggregate-judge-plan c = sym (length-take-le _ _ (omega (arith, are-at (c .before .before .before .before .before .before) .few)))
-
-array-share-prefix-dues : tie.Need-array-share-prefix-dues
-array-share-prefix-dues c = search needs
 
 slice-aggregate-judge-plan-2 : tie.Need-slice-aggregate-judge-plan-2
 slice-aggregate-judge-plan-2 c = sym (length-take-le _ _ (omega (arith, are-at (c .before .before .before .before .before .before .before) .few)))
@@ -68,13 +56,13 @@ pub judge-with-spec : {M : Type 1} → statement M
 judge-with-spec =
     tie.close
     (tie.spec
-    slice-aggregate-read-orders
-    slice-aggregate-read-orders-2
+    (λ c. search needs)
+    (λ c. search needs)
     read-orders-requires
     returns
-    array-share-prefix-readies
+    (λ c. search needs)
     slice-aggregate-judge-plan
-    array-share-prefix-dues
+    (λ c. search needs)
     slice-aggregate-judge-plan-2
     judge-plan-requires
     returns-2)

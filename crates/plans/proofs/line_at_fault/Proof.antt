@@ -5,9 +5,6 @@ use borrow.Author.Needs.{needs}
 use Rattle.plans.proofs.line_at_fault.Statement.{statement}
 use Rattle.plans.proofs.line_at_fault.Tie as tie
 
-part-requires : tie.Need-part-requires
-part-requires c κs = search needs
-
 returns : tie.Need-returns
 unfolding shown
 returns c =
@@ -15,9 +12,6 @@ returns c =
       rw inside (c .part .ensures .0),
       record { in-plan = λ plan. c .part .ensures .1; in-list = λ list. absurd (never-both inside list) },
     )
-
-part-requires-2 : tie.Need-part-requires-2
-part-requires-2 c κs = search needs
 
 returns-2 : tie.Need-returns-2
 unfolding shown
@@ -28,4 +22,4 @@ returns-2 c =
     )
 
 pub line-at-fault-spec : {M : Type 1} → statement M
-line-at-fault-spec = tie.close (tie.spec part-requires returns part-requires-2 returns-2)
+line-at-fault-spec = tie.close (tie.spec (λ c κs. search needs) returns (λ c κs. search needs) returns-2)

@@ -8,18 +8,6 @@ use borrow.Author.Needs.{needs}
 use Rattle.plans.proofs.note_load.Statement.{statement}
 use Rattle.plans.proofs.note_load.Tie as tie
 
-read-load-requires : tie.Need-read-load-requires
-read-load-requires c κs = search needs
-
-enum-known-load : tie.Need-enum-known-load
-enum-known-load c = search needs
-
-checked-requires : tie.Need-checked-requires
-checked-requires c κs = search needs
-
-enum-known-number : tie.Need-enum-known-number
-enum-known-number c = search needs
-
 returns : tie.Need-returns
 returns c =
     let m = c .before .before in
@@ -42,9 +30,9 @@ pub note-load-spec : {M : Type 1} → statement M
 note-load-spec =
     tie.close
     (tie.spec
-    read-load-requires
-    enum-known-load
-    checked-requires
-    enum-known-number
+    (λ c κs. search needs)
+    (λ c. search needs)
+    (λ c κs. search needs)
+    (λ c. search needs)
     returns
     returns-2)

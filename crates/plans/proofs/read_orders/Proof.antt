@@ -19,12 +19,6 @@ loop-holds : tie.Need-loop-holds Inv-loop μ-loop
 loop-holds c =
     let start = c .before .before .before in gone-top (start .args .list .now) (start .args .begun) _ _ (start .pre .1 .0) (start .pre .1 .1)
 
-next-requires : tie.Need-next-requires Inv-loop μ-loop
-next-requires c κs = search needs
-
-refusal-in-requires : tie.Need-refusal-in-requires Inv-loop μ-loop
-refusal-in-requires c κs = search needs
-
 same-length : tie.Need-same-length Inv-loop μ-loop
 same-length c =
     let loop = c .before .before .before .before .before .before in
@@ -57,14 +51,8 @@ room-at c =
     gone-room (k .before .before .before .loop .inv) (k .next .result) (k .next .ensures) (k .before .if1 .taken)
     (sym (r .refusal-in .ensures) ∙ c .before .if2 .left)
 
-mul-readies : tie.Need-mul-readies Inv-loop μ-loop
-mul-readies c = search needs
-
 slice-write-readies : tie.Need-slice-write-readies Inv-loop μ-loop
 slice-write-readies c = omega (arith, room-at c, c .before .before .before .before .before .before .before .loop .inv .sized .0)
-
-mul-dues : tie.Need-mul-dues Inv-loop μ-loop
-mul-dues c = search needs
 
 slice-write-dues : tie.Need-slice-write-dues Inv-loop μ-loop
 slice-write-dues c = omega (arith, room-at c, c .before .before .before .before .before .before .before .loop .inv .sized .1)
@@ -89,9 +77,6 @@ loop-again c =
     let loop = k .before .before .before in
     gone-next (loop .loop .inv) (k .next .result) (k .next .ensures) (k .before .if1 .taken) (sym (r .refusal-in .ensures) ∙ c .before .if2 .left)
     (loop .before .before .before .before .pre .0)
-
-faultless-requires : tie.Need-faultless-requires Inv-loop μ-loop
-faultless-requires c κs = search needs
 
 same-length-3 : tie.Need-same-length-3 Inv-loop μ-loop
 same-length-3 c =
@@ -120,19 +105,19 @@ read-orders-spec =
     Inv-loop
     μ-loop
     loop-holds
-    next-requires
-    refusal-in-requires
+    (λ c κs. search needs)
+    (λ c κs. search needs)
     same-length
     same-length-2
     returns
-    mul-readies
+    (λ c. search needs)
     slice-write-readies
-    mul-dues
+    (λ c. search needs)
     slice-write-dues
     add-count
     loop-less
     loop-again
-    faultless-requires
+    (λ c κs. search needs)
     same-length-3
     same-length-4
     returns-2)

@@ -5,11 +5,8 @@ use borrow.Author.Needs.{needs}
 use Rattle.replies.proofs.begin.Statement.{statement}
 use Rattle.replies.proofs.begin.Tie as tie
 
-begin-requires : tie.Need-begin-requires
-begin-requires c κs = search needs
-
 returns : tie.Need-returns
 returns c = ap replyFrom (c .before .begin .ensures)
 
 pub begin-spec : {M : Type 1} → statement M
-begin-spec = tie.close (tie.spec begin-requires returns)
+begin-spec = tie.close (tie.spec (λ c κs. search needs) returns)

@@ -4,11 +4,8 @@ use borrow.Author.Needs.{needs}
 use Rattle.replies.proofs.goes_on.Statement.{statement}
 use Rattle.replies.proofs.goes_on.Tie as tie
 
-sub-left : tie.Need-sub-left
-sub-left c = search needs
-
 returns : tie.Need-returns
 returns c = refl
 
 pub goes-on-spec : {M : Type 1} → statement M
-goes-on-spec = tie.close (tie.spec sub-left returns)
+goes-on-spec = tie.close (tie.spec (λ c. search needs) returns)

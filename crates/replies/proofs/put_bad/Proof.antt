@@ -7,18 +7,6 @@ use Rattle.writer.proofs.Line.{then-put, last-put, number-short}
 use Rattle.replies.proofs.put_bad.Statement.{statement}
 use Rattle.replies.proofs.put_bad.Tie as tie
 
-slice-aggregate-put-word : tie.Need-slice-aggregate-put-word
-slice-aggregate-put-word c = search needs
-
-put-word-requires : tie.Need-put-word-requires
-put-word-requires c κs = search needs
-
-put-number-requires : tie.Need-put-number-requires
-put-number-requires c κs = search needs
-
-same-length : tie.Need-same-length
-same-length c = search needs
-
 returns : tie.Need-returns
 unfolding bytes bytesOfAll
 returns c =
@@ -32,4 +20,4 @@ returns c =
 pub put-bad-spec : {M : Type 1} → statement M
 put-bad-spec =
     tie.close
-    (tie.spec slice-aggregate-put-word put-word-requires put-number-requires same-length returns)
+    (tie.spec (λ c. search needs) (λ c κs. search needs) (λ c κs. search needs) (λ c. search needs) returns)

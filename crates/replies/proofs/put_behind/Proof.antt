@@ -7,24 +7,6 @@ use borrow.Author.Needs.{needs}
 use Rattle.replies.proofs.put_behind.Statement.{statement}
 use Rattle.replies.proofs.put_behind.Tie as tie
 
-sub-put-next : tie.Need-sub-put-next
-sub-put-next c = search needs
-
-part-put-next-start : tie.Need-part-put-next-start
-part-put-next-start c = search needs
-
-part-put-next-end : tie.Need-part-put-next-end
-part-put-next-end c = search needs
-
-put-next-requires : tie.Need-put-next-requires
-put-next-requires c κs = search needs
-
-add-t9 : tie.Need-add-t9
-add-t9 c = search needs
-
-same-length : tie.Need-same-length
-same-length c = search needs
-
 returns : tie.Need-returns
 returns c =
     let put = c .before .before .before .before .put-next .ensures in
@@ -36,10 +18,10 @@ pub put-behind-spec : {M : Type 1} → statement M
 put-behind-spec =
     tie.close
     (tie.spec
-    sub-put-next
-    part-put-next-start
-    part-put-next-end
-    put-next-requires
-    add-t9
-    same-length
+    (λ c. search needs)
+    (λ c. search needs)
+    (λ c. search needs)
+    (λ c κs. search needs)
+    (λ c. search needs)
+    (λ c. search needs)
     returns)

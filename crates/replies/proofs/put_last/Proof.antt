@@ -6,18 +6,6 @@ use borrow.Author.Needs.{needs}
 use Rattle.replies.proofs.put_last.Statement.{statement}
 use Rattle.replies.proofs.put_last.Tie as tie
 
-write-sum-requires : tie.Need-write-sum-requires
-write-sum-requires c κs = search needs
-
-end-requires : tie.Need-end-requires
-end-requires c κs = search needs
-
-filled-by-requires : tie.Need-filled-by-requires
-filled-by-requires c κs = search needs
-
-same-length : tie.Need-same-length
-same-length c = search needs
-
 returns : tie.Need-returns
 returns c =
     let w = c .before .before .before .before in
@@ -26,4 +14,4 @@ returns c =
 
 pub put-last-spec : {M : Type 1} → statement M
 put-last-spec =
-    tie.close (tie.spec write-sum-requires end-requires filled-by-requires same-length returns)
+    tie.close (tie.spec (λ c κs. search needs) (λ c κs. search needs) (λ c κs. search needs) (λ c. search needs) returns)

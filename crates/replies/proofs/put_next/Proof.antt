@@ -8,21 +8,9 @@ use borrow.Author.Needs.{needs}
 use Rattle.replies.proofs.put_next.Statement.{statement}
 use Rattle.replies.proofs.put_next.Tie as tie
 
-put-refusal-requires : tie.Need-put-refusal-requires
-put-refusal-requires c κs = search needs
-
-same-length : tie.Need-same-length
-same-length c = search needs
-
 returns : tie.Need-returns
 unfolding lineDue pastLineDue
 returns c = let k = c .before .before in rw (ne-eqb _ 0 (k .before .before .if1 .taken)) (k .put-refusal .ensures)
-
-put-step-requires : tie.Need-put-step-requires
-put-step-requires c κs = search needs
-
-same-length-2 : tie.Need-same-length-2
-same-length-2 c = search needs
 
 returns-2 : tie.Need-returns-2
 unfolding lineDue pastLineDue
@@ -32,12 +20,6 @@ returns-2 c =
     let a = here .before .before .before .before .before .before .before .args in
     let inside : a .reply .progress .at < length (a .text .now) = omega (arith, here .if2 .taken) in
     rw (eq-eqb _ 0 (here .before .before .before .if1 .left), lt-ltb (a .reply .progress .at) (length (a .text .now)) inside) (k .put-step .ensures)
-
-put-last-requires : tie.Need-put-last-requires
-put-last-requires c κs = search needs
-
-same-length-3 : tie.Need-same-length-3
-same-length-3 c = search needs
 
 returns-3 : tie.Need-returns-3
 unfolding lineDue pastLineDue
@@ -50,12 +32,12 @@ pub put-next-spec : {M : Type 1} → statement M
 put-next-spec =
     tie.close
     (tie.spec
-    put-refusal-requires
-    same-length
+    (λ c κs. search needs)
+    (λ c. search needs)
     returns
-    put-step-requires
-    same-length-2
+    (λ c κs. search needs)
+    (λ c. search needs)
     returns-2
-    put-last-requires
-    same-length-3
+    (λ c κs. search needs)
+    (λ c. search needs)
     returns-3)

@@ -5,18 +5,6 @@ use borrow.Author.Needs.{needs}
 use Rattle.replies.proofs.put_refusal.Statement.{statement}
 use Rattle.replies.proofs.put_refusal.Tie as tie
 
-write-answer-requires : tie.Need-write-answer-requires
-write-answer-requires c κs = search needs
-
-end-requires : tie.Need-end-requires
-end-requires c κs = search needs
-
-filled-by-requires : tie.Need-filled-by-requires
-filled-by-requires c κs = search needs
-
-same-length : tie.Need-same-length
-same-length c = search needs
-
 returns : tie.Need-returns
 returns c =
     let w = c .before .before .before .before in
@@ -25,4 +13,4 @@ returns c =
 
 pub put-refusal-spec : {M : Type 1} → statement M
 put-refusal-spec =
-    tie.close (tie.spec write-answer-requires end-requires filled-by-requires same-length returns)
+    tie.close (tie.spec (λ c κs. search needs) (λ c κs. search needs) (λ c κs. search needs) (λ c. search needs) returns)

@@ -6,15 +6,6 @@ use Rattle.writer.proofs.Line.{then-put, number-short}
 use Rattle.replies.proofs.put_reply.Statement.{statement}
 use Rattle.replies.proofs.put_reply.Tie as tie
 
-put-number-requires : tie.Need-put-number-requires
-put-number-requires c κs = search needs
-
-put-answer-requires : tie.Need-put-answer-requires
-put-answer-requires c κs = search needs
-
-same-length : tie.Need-same-length
-same-length c = search needs
-
 returns : tie.Need-returns
 unfolding bytesOfAll
 returns c =
@@ -26,4 +17,4 @@ returns c =
     )
 
 pub put-reply-spec : {M : Type 1} → statement M
-put-reply-spec = tie.close (tie.spec put-number-requires put-answer-requires same-length returns)
+put-reply-spec = tie.close (tie.spec (λ c κs. search needs) (λ c κs. search needs) (λ c. search needs) returns)

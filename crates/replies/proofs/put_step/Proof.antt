@@ -9,18 +9,6 @@ use borrow.Author.Needs.{needs}
 use Rattle.replies.proofs.put_step.Statement.{statement}
 use Rattle.replies.proofs.put_step.Tie as tie
 
-next-requires : tie.Need-next-requires
-next-requires c κs = search needs
-
-write-answer-requires : tie.Need-write-answer-requires
-write-answer-requires c κs = search needs
-
-filled-by-requires : tie.Need-filled-by-requires
-filled-by-requires c κs = search needs
-
-same-length : tie.Need-same-length
-same-length c = search needs
-
 returns : tie.Need-returns
 returns c =
     let w = c .before .before .before in
@@ -36,4 +24,4 @@ returns c =
 
 pub put-step-spec : {M : Type 1} → statement M
 put-step-spec =
-    tie.close (tie.spec next-requires write-answer-requires filled-by-requires same-length returns)
+    tie.close (tie.spec (λ c κs. search needs) (λ c κs. search needs) (λ c κs. search needs) (λ c. search needs) returns)

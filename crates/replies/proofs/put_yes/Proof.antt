@@ -7,21 +7,6 @@ use Rattle.writer.proofs.Line.{then-put, last-put, number-short, hour-short}
 use Rattle.replies.proofs.put_yes.Statement.{statement}
 use Rattle.replies.proofs.put_yes.Tie as tie
 
-slice-aggregate-put-word : tie.Need-slice-aggregate-put-word
-slice-aggregate-put-word c = search needs
-
-put-word-requires : tie.Need-put-word-requires
-put-word-requires c κs = search needs
-
-put-number-requires : tie.Need-put-number-requires
-put-number-requires c κs = search needs
-
-put-hour-requires : tie.Need-put-hour-requires
-put-hour-requires c κs = search needs
-
-same-length : tie.Need-same-length
-same-length c = search needs
-
 returns : tie.Need-returns
 unfolding bytes bytesOfAll
 returns c =
@@ -37,9 +22,9 @@ pub put-yes-spec : {M : Type 1} → statement M
 put-yes-spec =
     tie.close
     (tie.spec
-    slice-aggregate-put-word
-    put-word-requires
-    put-number-requires
-    put-hour-requires
-    same-length
+    (λ c. search needs)
+    (λ c κs. search needs)
+    (λ c κs. search needs)
+    (λ c κs. search needs)
+    (λ c. search needs)
     returns)

@@ -12,21 +12,6 @@ use Rattle.replies.proofs.Replying.{sum-of-fields, sum-fits}
 use Rattle.replies.proofs.write_sum.Statement.{statement}
 use Rattle.replies.proofs.write_sum.Tie as tie
 
-slice-aggregate-put-sum : tie.Need-slice-aggregate-put-sum
-slice-aggregate-put-sum c = search needs
-
-put-sum-requires : tie.Need-put-sum-requires
-put-sum-requires c κs = search needs
-
-slice-aggregate-write-line : tie.Need-slice-aggregate-write-line
-slice-aggregate-write-line c = search needs
-
-write-line-requires : tie.Need-write-line-requires
-write-line-requires c κs = search needs
-
-same-length : tie.Need-same-length
-same-length c = search needs
-
 returns : tie.Need-returns
 unfolding bytesOfAll bytes
 returns c =
@@ -43,9 +28,9 @@ pub write-sum-spec : {M : Type 1} → statement M
 write-sum-spec =
     tie.close
     (tie.spec
-    slice-aggregate-put-sum
-    put-sum-requires
-    slice-aggregate-write-line
-    write-line-requires
-    same-length
+    (λ c. search needs)
+    (λ c κs. search needs)
+    (λ c. search needs)
+    (λ c κs. search needs)
+    (λ c. search needs)
     returns)

@@ -7,12 +7,6 @@ use Rattle.texts.proofs.Lines.{part-is}
 use Rattle.texts.proofs.line_at.Statement.{statement}
 use Rattle.texts.proofs.line_at.Tie as tie
 
-line-end-requires : tie.Need-line-end-requires
-line-end-requires c κs = search needs
-
-part-requires : tie.Need-part-requires
-part-requires c κs = search needs
-
 returns : tie.Need-returns
 returns c =
     let a = c .before .before .before .args in
@@ -22,4 +16,4 @@ returns c =
     (found .0 ∙ is .0, (found .1 .0, omega (arith, found .1 .1, is .1)))
 
 pub line-at-spec : {M : Type 1} → statement M
-line-at-spec = tie.close (tie.spec line-end-requires part-requires returns)
+line-at-spec = tie.close (tie.spec (λ c κs. search needs) (λ c κs. search needs) returns)

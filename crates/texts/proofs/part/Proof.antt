@@ -7,20 +7,11 @@ use Rattle.texts.proofs.Lines.{part-between, part-none}
 use Rattle.texts.proofs.part.Statement.{statement}
 use Rattle.texts.proofs.part.Tie as tie
 
-part-result-start : tie.Need-part-result-start
-part-result-start c = search needs
-
-part-result-end : tie.Need-part-result-end
-part-result-end c = search needs
-
 returns : tie.Need-returns
 returns c =
     let a = c .before .before .before .args in
     let found = part-between (a .text .now) (a .from) (a .to) (omega (arith, c .before .before .if1 .taken)) (omega (arith, c .before .if2 .taken)) in
     (sym (found .0), (refl, omega (arith, found .1)))
-
-slice-aggregate-result : tie.Need-slice-aggregate-result
-slice-aggregate-result c = search needs
 
 returns-2 : tie.Need-returns-2
 returns-2 c =
@@ -31,4 +22,4 @@ returns-2 c =
     (sym (none .0), (refl, omega (arith, none .1)))
 
 pub part-spec : {M : Type 1} → statement M
-part-spec = tie.close (tie.spec part-result-start part-result-end returns slice-aggregate-result returns-2)
+part-spec = tie.close (tie.spec (λ c. search needs) (λ c. search needs) returns (λ c. search needs) returns-2)

@@ -16,15 +16,6 @@ Inv-loop number left₀ count₀ left count =
 abbrev μ-loop : tie.MeasureT-loop
 μ-loop number left₀ count₀ left count = left
 
-loop-holds : tie.Need-loop-holds Inv-loop μ-loop
-loop-holds c = search needs
-
-add-count : tie.Need-add-count Inv-loop μ-loop
-add-count c = search needs
-
-loop-less : tie.Need-loop-less Inv-loop μ-loop
-loop-less c = search needs
-
 loop-again : tie.Need-loop-again Inv-loop μ-loop
 loop-again c = omega (arith, length-tenfold (c .before .loop .left) (omega arith))
 
@@ -33,4 +24,4 @@ returns c = omega (arith, length-one (c .before .loop .left) (omega arith))
 
 pub digit-count-spec : {M : Type 1} → statement M
 digit-count-spec =
-    tie.close (tie.spec Inv-loop μ-loop loop-holds add-count loop-less loop-again returns)
+    tie.close (tie.spec Inv-loop μ-loop (λ c. search needs) (λ c. search needs) (λ c. search needs) loop-again returns)

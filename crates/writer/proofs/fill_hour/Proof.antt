@@ -56,29 +56,8 @@ module _ (hour : ℕ) (entry one : List ℕ) (room : 3 ≤ length entry) (first 
     filled-length : length (putMid (length entry - 3 + 1) (length entry - (length entry - 3 + 1)) marked two) ≡ length entry
     filled-length = ap length filled ∙ simp (length-append, length-last-digits) (omega arith)
 
-sub-mark : tie.Need-sub-mark
-sub-mark c = search needs
-
-add-tenth : tie.Need-add-tenth
-add-tenth c = search needs
-
-slice-relend-prefix-put-digits : tie.Need-slice-relend-prefix-put-digits
-slice-relend-prefix-put-digits c = search needs
-
 slice-aggregate-put-digits : tie.Need-slice-aggregate-put-digits
 slice-aggregate-put-digits c = let b = c .before .before .args .buffer .now in sym (length-take-le (length b - 3) b (omega arith))
-
-put-digits-requires : tie.Need-put-digits-requires
-put-digits-requires c κs = search needs
-
-slice-write-buffer : tie.Need-slice-write-buffer
-slice-write-buffer c = search needs
-
-sub-put-digits : tie.Need-sub-put-digits
-sub-put-digits c = search needs
-
-part-put-digits-start : tie.Need-part-put-digits-start
-part-put-digits-start c = search needs
 
 part-put-digits-end : tie.Need-part-put-digits-end
 part-put-digits-end c =
@@ -87,9 +66,6 @@ part-put-digits-end c =
       arith,
       marked-length (s .args .hour) (s .args .buffer .now) (c .before .before .put-digits .last .1 .0) (s .pre) (c .before .before .put-digits .ensures),
     )
-
-put-digits-requires-2 : tie.Need-put-digits-requires-2
-put-digits-requires-2 c κs = search needs
 
 same-length : tie.Need-same-length
 same-length c =
@@ -109,15 +85,15 @@ pub fill-hour-spec : {M : Type 1} → statement M
 fill-hour-spec =
     tie.close
     (tie.spec
-    sub-mark
-    add-tenth
-    slice-relend-prefix-put-digits
+    (λ c. search needs)
+    (λ c. search needs)
+    (λ c. search needs)
     slice-aggregate-put-digits
-    put-digits-requires
-    slice-write-buffer
-    sub-put-digits
-    part-put-digits-start
+    (λ c κs. search needs)
+    (λ c. search needs)
+    (λ c. search needs)
+    (λ c. search needs)
     part-put-digits-end
-    put-digits-requires-2
+    (λ c κs. search needs)
     same-length
     returns)

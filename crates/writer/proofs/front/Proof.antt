@@ -18,9 +18,6 @@ returns c =
     let a = c .before .before .args in
     (simp (le-leb (a .count) (length (a .buffer .now)) (omega (arith, c .before .if1 .taken))), (refl, omega arith))
 
-slice-aggregate-result-2 : tie.Need-slice-aggregate-result-2
-slice-aggregate-result-2 c = search needs
-
 returns-2 : tie.Need-returns-2
 unfolding frontOf
 returns-2 c =
@@ -28,4 +25,4 @@ returns-2 c =
     (simp (lt-leb (a .count) (length (a .buffer .now)) (omega (arith, c .before .if1 .left))), (refl, omega arith))
 
 pub front-spec : {M : Type 1} → statement M
-front-spec = tie.close (tie.spec slice-aggregate-result returns slice-aggregate-result-2 returns-2)
+front-spec = tie.close (tie.spec slice-aggregate-result returns (λ c. search needs) returns-2)

@@ -29,12 +29,6 @@ fits-at c =
       room = ltb-true _ _ (sym (c .before .has-room .ensures) ∙ c .if2 .taken);
     }
 
-enum-known-so-far : tie.Need-enum-known-so-far
-enum-known-so-far c = search needs
-
-enum-told : tie.Need-enum-told
-enum-told c = search needs
-
 returns : tie.Need-returns
 unfolding frontAfter
 returns c = rw (c .enum-told .given .1) (refl, refl)
@@ -46,38 +40,20 @@ returns-2 c =
     let a = p .before .before .before .args in
     rw (p .so-far .given .1, hour-above (a .hour) (omega (arith, c .if1 .taken))) (refl, refl)
 
-digit-count-requires : tie.Need-digit-count-requires
-digit-count-requires c κs = search needs
-
 add-length : tie.Need-add-length
 add-length c = omega (arith, spelled-short (c .before .before .before .before .before .before .args .hour / 100))
-
-has-room-requires : tie.Need-has-room-requires
-has-room-requires c κs = search needs
 
 add-hour-end : tie.Need-add-hour-end
 add-hour-end c = omega (arith, fits-at c .room)
 
-sub-write-hour : tie.Need-sub-write-hour
-sub-write-hour c = search needs
-
-part-write-hour-start : tie.Need-part-write-hour-start
-part-write-hour-start c = search needs
-
 part-write-hour-end : tie.Need-part-write-hour-end
 part-write-hour-end c = omega (arith, fits-at c .room)
-
-write-hour-requires : tie.Need-write-hour-requires
-write-hour-requires c κs = search needs
 
 slice-write-buffer : tie.Need-slice-write-buffer
 slice-write-buffer c = omega (arith, fits-at (c .before .before .before .before) .room)
 
 add-past : tie.Need-add-past
 add-past c = omega (arith, fits-at (c .before .before .before .before) .room)
-
-same-length : tie.Need-same-length
-same-length c = search needs
 
 returns-3 : tie.Need-returns-3
 returns-3 c =
@@ -103,20 +79,20 @@ pub put-hour-spec : {M : Type 1} → statement M
 put-hour-spec =
     tie.close
     (tie.spec
-    enum-known-so-far
-    enum-told
+    (λ c. search needs)
+    (λ c. search needs)
     returns
     returns-2
-    digit-count-requires
+    (λ c κs. search needs)
     add-length
-    has-room-requires
+    (λ c κs. search needs)
     add-hour-end
-    sub-write-hour
-    part-write-hour-start
+    (λ c. search needs)
+    (λ c. search needs)
     part-write-hour-end
-    write-hour-requires
+    (λ c κs. search needs)
     slice-write-buffer
     add-past
-    same-length
+    (λ c. search needs)
     returns-3
     returns-4)

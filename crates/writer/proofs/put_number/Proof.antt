@@ -19,45 +19,21 @@ fits-at :
     Fits (p .so-far .given .0 .0) (spelled (a .number)) (a .stop) (a .buffer .now) (d .digit-count .result)
 fits-at c = record { counted = c .before .before .digit-count .ensures; room = ltb-true _ _ (sym (c .before .has-room .ensures) ∙ c .if1 .taken) }
 
-enum-known-so-far : tie.Need-enum-known-so-far
-enum-known-so-far c = search needs
-
-enum-told : tie.Need-enum-told
-enum-told c = search needs
-
 returns : tie.Need-returns
 unfolding frontAfter
 returns c = rw (c .enum-told .given .1) (refl, refl)
 
-digit-count-requires : tie.Need-digit-count-requires
-digit-count-requires c κs = search needs
-
-has-room-requires : tie.Need-has-room-requires
-has-room-requires c κs = search needs
-
 add-digits-end : tie.Need-add-digits-end
 add-digits-end c = omega (arith, fits-at c .room)
 
-sub-put-digits : tie.Need-sub-put-digits
-sub-put-digits c = search needs
-
-part-put-digits-start : tie.Need-part-put-digits-start
-part-put-digits-start c = search needs
-
 part-put-digits-end : tie.Need-part-put-digits-end
 part-put-digits-end c = omega (arith, fits-at c .room)
-
-put-digits-requires : tie.Need-put-digits-requires
-put-digits-requires c κs = search needs
 
 slice-write-buffer : tie.Need-slice-write-buffer
 slice-write-buffer c = omega (arith, fits-at (c .before .before .before .before) .room)
 
 add-past : tie.Need-add-past
 add-past c = omega (arith, fits-at (c .before .before .before .before) .room)
-
-same-length : tie.Need-same-length
-same-length c = search needs
 
 returns-2 : tie.Need-returns-2
 returns-2 c =
@@ -81,18 +57,18 @@ pub put-number-spec : {M : Type 1} → statement M
 put-number-spec =
     tie.close
     (tie.spec
-    enum-known-so-far
-    enum-told
+    (λ c. search needs)
+    (λ c. search needs)
     returns
-    digit-count-requires
-    has-room-requires
+    (λ c κs. search needs)
+    (λ c κs. search needs)
     add-digits-end
-    sub-put-digits
-    part-put-digits-start
+    (λ c. search needs)
+    (λ c. search needs)
     part-put-digits-end
-    put-digits-requires
+    (λ c κs. search needs)
     slice-write-buffer
     add-past
-    same-length
+    (λ c. search needs)
     returns-2
     returns-3)

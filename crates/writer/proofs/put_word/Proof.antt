@@ -17,27 +17,12 @@ fits-at :
     Fits (p .so-far .given .0 .0) (a .word .now) (a .stop) (a .buffer .now) (length (a .word .now))
 fits-at c = record { counted = refl; room = ltb-true _ _ (sym (c .before .has-room .ensures) ∙ c .if1 .taken) }
 
-enum-known-so-far : tie.Need-enum-known-so-far
-enum-known-so-far c = search needs
-
-enum-told : tie.Need-enum-told
-enum-told c = search needs
-
 returns : tie.Need-returns
 unfolding frontAfter
 returns c = rw (c .enum-told .given .1) (refl, refl)
 
-has-room-requires : tie.Need-has-room-requires
-has-room-requires c κs = search needs
-
 add-word-end : tie.Need-add-word-end
 add-word-end c = omega (arith, fits-at c .room)
-
-sub-copy : tie.Need-sub-copy
-sub-copy c = search needs
-
-part-copy-start : tie.Need-part-copy-start
-part-copy-start c = search needs
 
 part-copy-end : tie.Need-part-copy-end
 part-copy-end c = omega (arith, fits-at c .room)
@@ -50,9 +35,6 @@ slice-write-buffer c = omega (arith, fits-at (c .before .before .before .before)
 
 add-past : tie.Need-add-past
 add-past c = omega (arith, fits-at (c .before .before .before .before) .room)
-
-same-length : tie.Need-same-length
-same-length c = search needs
 
 returns-2 : tie.Need-returns-2
 returns-2 c =
@@ -71,17 +53,17 @@ pub put-word-spec : {M : Type 1} → statement M
 put-word-spec =
     tie.close
     (tie.spec
-    enum-known-so-far
-    enum-told
+    (λ c. search needs)
+    (λ c. search needs)
     returns
-    has-room-requires
+    (λ c κs. search needs)
     add-word-end
-    sub-copy
-    part-copy-start
+    (λ c. search needs)
+    (λ c. search needs)
     part-copy-end
     copy-requires
     slice-write-buffer
     add-past
-    same-length
+    (λ c. search needs)
     returns-2
     returns-3)

@@ -6,18 +6,6 @@ use Rattle.writer.specs.Writing.{textIn}
 use Rattle.writer.proofs.text_in.Statement.{statement}
 use Rattle.writer.proofs.text_in.Tie as tie
 
-enum-known-written : tie.Need-enum-known-written
-enum-known-written c = search needs
-
-front-requires : tie.Need-front-requires
-front-requires c κs = search needs
-
-enum-told : tie.Need-enum-told
-enum-told c = search needs
-
-slice-aggregate-result : tie.Need-slice-aggregate-result
-slice-aggregate-result c = search needs
-
 returns : tie.Need-returns
 unfolding textIn
 returns c = rw (c .before .before .written .given .1) (c .front .ensures)
@@ -29,4 +17,4 @@ returns-2 c = rw (c .before .enum-told .given .1) (refl, (refl, omega arith))
 pub text-in-spec : {M : Type 1} → statement M
 text-in-spec =
     tie.close
-    (tie.spec enum-known-written front-requires enum-told slice-aggregate-result returns returns-2)
+    (tie.spec (λ c. search needs) (λ c κs. search needs) (λ c. search needs) (λ c. search needs) returns returns-2)

@@ -44,14 +44,8 @@ known-at c =
 room-at : (c : tie.Else1) → c .before .before .digit-count .result + 3 ≤ length (c .before .before .before .before .args .buffer .now)
 room-at c = has-room (known-at (c .before)) (omega arith)
 
-digit-count-requires : tie.Need-digit-count-requires
-digit-count-requires c κs = search needs
-
 add-length : tie.Need-add-length
 add-length c = omega (arith, spelled-short (c .before .before .args .hour / 100))
-
-writing-refusal-requires : tie.Need-writing-refusal-requires
-writing-refusal-requires c κs = search needs
 
 returns : tie.Need-returns
 returns c = refused (known-at (c .before)) (λ none. omega arith)
@@ -65,9 +59,6 @@ slice-aggregate-fill-hour c = sym (length-take-le _ _ (omega (arith, room-at (c 
 fill-hour-requires : tie.Need-fill-hour-requires
 fill-hour-requires c κs = simp length-take (omega (arith, room-at (c .before)))
 
-same-length : tie.Need-same-length
-same-length c = search needs
-
 returns-2 : tie.Need-returns-2
 returns-2 c =
     let k = c .before .before .before .before .before in
@@ -80,12 +71,12 @@ pub write-hour-spec : {M : Type 1} → statement M
 write-hour-spec =
     tie.close
     (tie.spec
-    digit-count-requires
+    (λ c κs. search needs)
     add-length
-    writing-refusal-requires
+    (λ c κs. search needs)
     returns
     slice-relend-prefix-fill-hour
     slice-aggregate-fill-hour
     fill-hour-requires
-    same-length
+    (λ c. search needs)
     returns-2)

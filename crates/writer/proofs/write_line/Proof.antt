@@ -10,12 +10,6 @@ use Rattle.writer.specs.Line.{lineIn}
 use Rattle.writer.proofs.write_line.Statement.{statement}
 use Rattle.writer.proofs.write_line.Tie as tie
 
-enum-known-line : tie.Need-enum-known-line
-enum-known-line c = search needs
-
-enum-told : tie.Need-enum-told
-enum-told c = search needs
-
 returns : tie.Need-returns
 unfolding lineIn fitted
 returns c = rw (c .enum-told .given .1) (refl, refl)
@@ -30,12 +24,6 @@ returns-2 c =
 slice-aggregate-write-text : tie.Need-slice-aggregate-write-text
 slice-aggregate-write-text c = sym (length-take-le _ _ (omega (arith, c .before .if1 .left)))
 
-write-text-requires : tie.Need-write-text-requires
-write-text-requires c κs = search needs
-
-same-length : tie.Need-same-length
-same-length c = search needs
-
 returns-3 : tie.Need-returns-3
 unfolding lineIn
 returns-3 c =
@@ -49,11 +37,11 @@ pub write-line-spec : {M : Type 1} → statement M
 write-line-spec =
     tie.close
     (tie.spec
-    enum-known-line
-    enum-told
+    (λ c. search needs)
+    (λ c. search needs)
     returns
     returns-2
     slice-aggregate-write-text
-    write-text-requires
-    same-length
+    (λ c κs. search needs)
+    (λ c. search needs)
     returns-3)

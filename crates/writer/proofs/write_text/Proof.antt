@@ -14,17 +14,11 @@ unfolding fitted
 returns c =
     let a = c .before .before .before .args in rw (lt-leb (length (a .text .now)) (length (a .buffer .now)) (omega arith)) (refl, refl)
 
-slice-relend-prefix-copy : tie.Need-slice-relend-prefix-copy
-slice-relend-prefix-copy c = search needs
-
 slice-aggregate-copy : tie.Need-slice-aggregate-copy
 slice-aggregate-copy c = sym (length-take-le _ _ (omega arith))
 
 copy-requires : tie.Need-copy-requires
 copy-requires c κs = length-take-le _ _ (omega arith)
-
-same-length : tie.Need-same-length
-same-length c = search needs
 
 returns-2 : tie.Need-returns-2
 unfolding fitted onto
@@ -38,8 +32,8 @@ write-text-spec =
     tie.close
     (tie.spec
     returns
-    slice-relend-prefix-copy
+    (λ c. search needs)
     slice-aggregate-copy
     copy-requires
-    same-length
+    (λ c. search needs)
     returns-2)

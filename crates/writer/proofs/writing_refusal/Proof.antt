@@ -16,12 +16,6 @@ told true true number none short outside = none refl refl
 told true false number none short outside = short refl refl
 told false fits number none short outside = outside refl
 
-check-requires : tie.Need-check-requires
-check-requires c κs = search needs
-
-check-requires-2 : tie.Need-check-requires-2
-check-requires-2 c κs = search needs
-
 returns : tie.Need-returns
 returns c =
     let s = c .before .before in
@@ -31,4 +25,4 @@ returns c =
     (λ outside. simp (c .check2 .ensures, outside) (omega arith))
 
 pub writing-refusal-spec : {M : Type 1} → statement M
-writing-refusal-spec = tie.close (tie.spec check-requires check-requires-2 returns)
+writing-refusal-spec = tie.close (tie.spec (λ c κs. search needs) (λ c κs. search needs) returns)

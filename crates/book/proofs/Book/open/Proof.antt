@@ -35,30 +35,12 @@ number :
     (cond (within 1 longestRun (k .before .before .before .before .args .run)) 0 4) 4
 number k = rw (k .check2 .ensures, k .before .check .ensures, k .before .before .before .within .ensures, k .before .before .within2 .ensures)
 
-within-requires : tie.Need-within-requires
-within-requires c κs = search needs
-
-within-requires-2 : tie.Need-within-requires-2
-within-requires-2 c κs = search needs
-
-check-requires : tie.Need-check-requires
-check-requires c κs = search needs
-
-check-requires-2 : tie.Need-check-requires-2
-check-requires-2 c κs = search needs
-
-empty-requires : tie.Need-empty-requires
-empty-requires c κs = search needs
-
 returns : tie.Need-returns
 unfolding opened
 returns c =
     let k = c .before .before in
     let a = k .before .before .before .before .args in
     rw (c .empty .ensures) (refused-then (a .chambers) (a .run) (within 1 mostChambers (a .chambers)) (within 1 longestRun (a .run)) (number k) (λ none. omega (arith, c .before .if1 .taken)))
-
-empty-requires-2 : tie.Need-empty-requires-2
-empty-requires-2 c κs = search needs
 
 returns-2 : tie.Need-returns-2
 unfolding opened
@@ -71,11 +53,11 @@ pub open-spec : {M : Type 1} → statement M
 open-spec =
     tie.close
     (tie.spec
-    within-requires
-    within-requires-2
-    check-requires
-    check-requires-2
-    empty-requires
+    (λ c κs. search needs)
+    (λ c κs. search needs)
+    (λ c κs. search needs)
+    (λ c κs. search needs)
+    (λ c κs. search needs)
     returns
-    empty-requires-2
+    (λ c κs. search needs)
     returns-2)

@@ -7,21 +7,12 @@ use Rattle.book.proofs.Deciding.{refused-order, passed-order, settled-o
 use Rattle.book.proofs.Book.take.Statement.{statement}
 use Rattle.book.proofs.Book.take.Tie as tie
 
-refusal-of-requires : tie.Need-refusal-of-requires
-refusal-of-requires c κs = search needs
-
-refused-requires : tie.Need-refused-requires
-refused-requires c κs = search needs
-
 returns : tie.Need-returns
 returns c =
     let k = c .before .before in
     let a = k .before .args in
     rw (refused-order (a .self) (a .ready) (a .due) (k .refusal-of .result) (k .refusal-of .ensures) (λ none. omega (arith, c .before .if1 .taken)))
     (record { said = c .refused .ensures .0; next = c .refused .ensures .1 })
-
-choose-requires : tie.Need-choose-requires
-choose-requires c κs = search needs
 
 settle-requires : tie.Need-settle-requires
 settle-requires c κs =
@@ -39,4 +30,4 @@ returns-2 c =
 
 pub take-spec : {M : Type 1} → statement M
 take-spec =
-    tie.close (tie.spec refusal-of-requires refused-requires returns choose-requires settle-requires returns-2)
+    tie.close (tie.spec (λ c κs. search needs) (λ c κs. search needs) returns (λ c κs. search needs) settle-requires returns-2)

@@ -11,29 +11,11 @@ Inv-loop list reply₀ reply = Unit {0}
 abbrev μ-loop : tie.MeasureT-loop
 μ-loop list reply₀ reply = leftOf list reply
 
-slice-aggregate-word : tie.Need-slice-aggregate-word Inv-loop μ-loop
-slice-aggregate-word c = search needs
-
-word-requires : tie.Need-word-requires Inv-loop μ-loop
-word-requires c κs = search needs
-
-begin-requires : tie.Need-begin-requires Inv-loop μ-loop
-begin-requires c κs = search needs
-
-loop-holds : tie.Need-loop-holds Inv-loop μ-loop
-loop-holds c = search needs
-
 reply-with-some-requires : tie.Need-reply-with-some-requires Inv-loop μ-loop
 reply-with-some-requires c κs = not-true _ (c .if1 .taken)
 
 loop-less : tie.Need-loop-less Inv-loop μ-loop
 loop-less c = c .reply-with-some .ensures
-
-loop-again : tie.Need-loop-again Inv-loop μ-loop
-loop-again c = search needs
-
-returns : tie.Need-returns Inv-loop μ-loop
-returns c = search needs
 
 pub desk-spec : {M : Type 1} → statement M
 desk-spec =
@@ -41,11 +23,11 @@ desk-spec =
     (tie.spec
     Inv-loop
     μ-loop
-    slice-aggregate-word
-    word-requires
-    begin-requires
-    loop-holds
+    (λ c. search needs)
+    (λ c κs. search needs)
+    (λ c κs. search needs)
+    (λ c. search needs)
     reply-with-some-requires
     loop-less
-    loop-again
-    returns)
+    (λ c. search needs)
+    (λ c. search needs))

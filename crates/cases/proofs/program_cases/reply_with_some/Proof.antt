@@ -8,23 +8,8 @@ use Rattle.replies.proofs.Filling.{fewer-left, piece-length}
 use Rattle.cases.proofs.program_cases.reply_with_some.Statement.{statement}
 use Rattle.cases.proofs.program_cases.reply_with_some.Tie as tie
 
-buffer-requires : tie.Need-buffer-requires
-buffer-requires c κs = search needs
-
-slice-aggregate-fill : tie.Need-slice-aggregate-fill
-slice-aggregate-fill c = search needs
-
-fill-requires : tie.Need-fill-requires
-fill-requires c κs = search needs
-
-array-share-prefix-buffer : tie.Need-array-share-prefix-buffer
-array-share-prefix-buffer c = search needs
-
 slice-aggregate-part-of-text : tie.Need-slice-aggregate-part-of-text
 slice-aggregate-part-of-text c = piece-length _ _ _ (c .before .before .before .fill .ensures)
-
-part-of-text-requires : tie.Need-part-of-text-requires
-part-of-text-requires c κs = search needs
 
 returns : tie.Need-returns
 returns c =
@@ -37,10 +22,10 @@ pub reply-with-some-spec : {M : Type 1} → statement M
 reply-with-some-spec =
     tie.close
     (tie.spec
-    buffer-requires
-    slice-aggregate-fill
-    fill-requires
-    array-share-prefix-buffer
+    (λ c κs. search needs)
+    (λ c. search needs)
+    (λ c κs. search needs)
+    (λ c. search needs)
     slice-aggregate-part-of-text
-    part-of-text-requires
+    (λ c κs. search needs)
     returns)

@@ -22,21 +22,6 @@ further k =
     let found = k .before .before in
     walk-further _ _ _ (found .walked-line .result .now) (found .walked-line .ensures .0) (k .before .if1 .left) (k .walked-place .ensures)
 
-walk-start-requires : tie.Need-walk-start-requires Inv-loop μ-loop
-walk-start-requires c κs = search needs
-
-loop-holds : tie.Need-loop-holds Inv-loop μ-loop
-loop-holds c = search needs
-
-walked-line-requires : tie.Need-walked-line-requires Inv-loop μ-loop
-walked-line-requires c κs = search needs
-
-returns : tie.Need-returns Inv-loop μ-loop
-returns c = search needs
-
-walked-place-requires : tie.Need-walked-place-requires Inv-loop μ-loop
-walked-place-requires c κs = search needs
-
 add-count : tie.Need-add-count Inv-loop μ-loop
 add-count c = record { fits = omega (arith, further c) }
 
@@ -48,4 +33,4 @@ loop-again c = omega (arith, further c)
 
 pub walked-from-top-spec : {M : Type 1} → statement M
 walked-from-top-spec =
-    tie.close (tie.spec Inv-loop μ-loop walk-start-requires loop-holds walked-line-requires returns walked-place-requires add-count loop-less loop-again)
+    tie.close (tie.spec Inv-loop μ-loop (λ c κs. search needs) (λ c. search needs) (λ c κs. search needs) (λ c. search needs) (λ c κs. search needs) add-count loop-less loop-again)

@@ -13,26 +13,8 @@ Inv-loop line count₀ at₀ count at = count ≤ at
 abbrev μ-loop : tie.MeasureT-loop
 μ-loop line count₀ at₀ count at = length line - at
 
-loop-holds : tie.Need-loop-holds Inv-loop μ-loop
-loop-holds c = search needs
-
-shared-slice-read-if1 : tie.Need-shared-slice-read-if1 Inv-loop μ-loop
-shared-slice-read-if1 c = search needs
-
-add-count : tie.Need-add-count Inv-loop μ-loop
-add-count c = search needs
-
-add-at : tie.Need-add-at Inv-loop μ-loop
-add-at c = search needs
-
-loop-less : tie.Need-loop-less Inv-loop μ-loop
-loop-less c = search needs
-
 loop-again : tie.Need-loop-again Inv-loop μ-loop
 loop-again c = ⊎-elim (λ w. omega arith) (λ w. omega arith) (c .if1 .came)
-
-returns : tie.Need-returns Inv-loop μ-loop
-returns c = search needs
 
 pub spaces-spec : {M : Type 1} → statement M
 spaces-spec =
@@ -40,10 +22,10 @@ spaces-spec =
     (tie.spec
     Inv-loop
     μ-loop
-    loop-holds
-    shared-slice-read-if1
-    add-count
-    add-at
-    loop-less
+    (λ c. search needs)
+    (λ c. search needs)
+    (λ c. search needs)
+    (λ c. search needs)
+    (λ c. search needs)
     loop-again
-    returns)
+    (λ c. search needs))
