@@ -9,10 +9,5 @@ returns c = rw (c .before .before .all-up-to .ensures, c .all-up-to2 .ensures)
 pub hours-are-sound-spec : {M : Type 1} → statement M
 hours-are-sound-spec =
     tie.close
-    (tie.spec
-    (λ c. search needs)
-    (λ c. search needs)
-    (λ c κs. search needs)
-    (λ c. search needs)
-    (λ c κs. search needs)
-    returns)
+    (tie.spec (λ c. search needs) (λ c. search needs) (λ c κs. search needs) (λ c. search needs)
+    (λ c κs. search needs) returns)

@@ -20,12 +20,5 @@ loop-less c = c .print-some .ensures
 pub print-reply-spec : {M : Type 1} → statement M
 print-reply-spec =
     tie.close
-    (tie.spec
-    Inv-loop
-    μ-loop
-    (λ c κs. search needs)
-    (λ c. search needs)
-    print-some-requires
-    loop-less
-    (λ c. search needs)
-    (λ c. search needs))
+    (tie.spec Inv-loop μ-loop (λ c κs. search needs) (λ c. search needs) print-some-requires loop-less
+    (λ c. search needs) (λ c. search needs))

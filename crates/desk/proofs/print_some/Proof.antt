@@ -24,13 +24,5 @@ returns-2 c = none-of-some _ _ _ (c .before .before .before .before .before .bef
 pub print-some-spec : {M : Type 1} → statement M
 print-some-spec =
     tie.close
-    (tie.spec
-    (λ c κs. search needs)
-    (λ c. search needs)
-    (λ c κs. search needs)
-    (λ c. search needs)
-    slice-aggregate-print
-    (λ c κs. search needs)
-    (λ c κs. search needs)
-    returns
-    returns-2)
+    (tie.spec (λ c κs. search needs) (λ c. search needs) (λ c κs. search needs) (λ c. search needs)
+    slice-aggregate-print (λ c κs. search needs) (λ c κs. search needs) returns returns-2)

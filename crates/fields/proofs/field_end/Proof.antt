@@ -37,15 +37,5 @@ returns-2 c = omega (arith, field-ends (c .before .before .before .args .line .n
 pub field-end-spec : {M : Type 1} → statement M
 field-end-spec =
     tie.close
-    (tie.spec
-    Inv-loop
-    μ-loop
-    loop-holds
-    (λ c. search needs)
-    (λ c κs. search needs)
-    (λ c κs. search needs)
-    returns
-    (λ c. search needs)
-    (λ c. search needs)
-    loop-again
-    returns-2)
+    (tie.spec Inv-loop μ-loop loop-holds (λ c. search needs) (λ c κs. search needs) (λ c κs. search needs) returns
+    (λ c. search needs) (λ c. search needs) loop-again returns-2)

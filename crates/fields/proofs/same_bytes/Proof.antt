@@ -41,15 +41,5 @@ returns-3 c =
 pub same-bytes-spec : {M : Type 1} → statement M
 same-bytes-spec =
     tie.close
-    (tie.spec
-    Inv-loop
-    μ-loop
-    returns
-    (λ c. search needs)
-    (λ c. search needs)
-    (λ c. search needs)
-    returns-2
-    (λ c. search needs)
-    (λ c. search needs)
-    loop-again
-    returns-3)
+    (tie.spec Inv-loop μ-loop returns (λ c. search needs) (λ c. search needs) (λ c. search needs) returns-2
+    (λ c. search needs) (λ c. search needs) loop-again returns-3)

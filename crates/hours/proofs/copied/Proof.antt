@@ -39,13 +39,5 @@ returns c = let l = c .before .loop in copy-end _ (l .copy) (l .at) (l .inv .0) 
 pub copied-spec : {M : Type 1} → statement M
 copied-spec =
     tie.close
-    (tie.spec
-    Inv-loop
-    μ-loop
-    (λ c. search needs)
-    (λ c. search needs)
-    (λ c. search needs)
-    (λ c. search needs)
-    (λ c. search needs)
-    loop-again
-    returns)
+    (tie.spec Inv-loop μ-loop (λ c. search needs) (λ c. search needs) (λ c. search needs) (λ c. search needs)
+    (λ c. search needs) loop-again returns)

@@ -15,19 +15,6 @@ returns-5 c = rw (c .before .before .stage3 .given .1, c .in-hundredths3 .ensure
 pub ended-spec : {M : Type 1} → statement M
 ended-spec =
     tie.close
-    (tie.spec
-    (λ c. search needs)
-    (λ c. search needs)
-    (λ c κs. search needs)
-    (λ c. search needs)
-    (λ c. search needs)
-    (λ c κs. search needs)
-    (λ c. search needs)
-    (λ c κs. search needs)
-    (λ c. search needs)
-    (λ c. search needs)
-    returns-2
-    (λ c. search needs)
-    returns-4
-    returns-5
-    (λ c. search needs))
+    (tie.spec (λ c. search needs) (λ c. search needs) (λ c κs. search needs) (λ c. search needs) (λ c. search needs)
+    (λ c κs. search needs) (λ c. search needs) (λ c κs. search needs) (λ c. search needs) (λ c. search needs)
+    returns-2 (λ c. search needs) returns-4 returns-5 (λ c. search needs))

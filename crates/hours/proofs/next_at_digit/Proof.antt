@@ -18,17 +18,6 @@ returns-4 c = rw (c .before .stage3 .given .1)
 pub next-at-digit-spec : {M : Type 1} → statement M
 next-at-digit-spec =
     tie.close
-    (tie.spec
-    (λ c. search needs)
-    (λ c. search needs)
-    (λ c κs. search needs)
-    (λ c. search needs)
-    (λ c. search needs)
-    (λ c. search needs)
-    (λ c. search needs)
-    returns
-    returns-2
-    returns-3
-    returns-4
-    (λ c. search needs)
+    (tie.spec (λ c. search needs) (λ c. search needs) (λ c κs. search needs) (λ c. search needs) (λ c. search needs)
+    (λ c. search needs) (λ c. search needs) returns returns-2 returns-3 returns-4 (λ c. search needs)
     (λ c. search needs))

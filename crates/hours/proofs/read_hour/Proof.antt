@@ -21,11 +21,5 @@ returns-2 c = rw (c .ended .ensures, c .before .scan .ensures, c .before .before
 pub read-hour-spec : {M : Type 1} → statement M
 read-hour-spec =
     tie.close
-    (tie.spec
-    returns
-    (λ c κs. search needs)
-    (λ c. search needs)
-    slice-aggregate-scan
-    (λ c κs. search needs)
-    (λ c κs. search needs)
-    returns-2)
+    (tie.spec returns (λ c κs. search needs) (λ c. search needs) slice-aggregate-scan (λ c κs. search needs)
+    (λ c κs. search needs) returns-2)

@@ -56,14 +56,5 @@ returns-4 c =
 pub judge-spec : {M : Type 1} → statement M
 judge-spec =
     tie.close
-    (tie.spec
-    (λ c κs. search needs)
-    (λ c κs. search needs)
-    returns
-    (λ c κs. search needs)
-    returns-2
-    (λ c κs. search needs)
-    (λ c κs. search needs)
-    returns-3
-    judge-with-requires
-    returns-4)
+    (tie.spec (λ c κs. search needs) (λ c κs. search needs) returns (λ c κs. search needs) returns-2
+    (λ c κs. search needs) (λ c κs. search needs) returns-3 judge-with-requires returns-4)

@@ -245,51 +245,10 @@ returns-3 c =
 pub judge-plan-spec : {M : Type 1} → statement M
 judge-plan-spec =
     tie.close
-    (tie.spec
-    Inv-loop
-    μ-loop
-    Inv-plan
-    μ-plan
-    (λ c κs. search needs)
-    plan-holds
-    (λ c κs. search needs)
-    sub-note-load
-    part-note-load-start
-    part-note-load-end
-    (λ c. search needs)
-    (λ c κs. search needs)
-    (λ c κs. search needs)
-    returns
-    sub-chamber
-    cast-chamber
-    mul-last
-    array-read-last
-    loop-holds
-    sub-there
-    cast-there
-    mul-overlap
-    array-read-overlap
-    (λ c κs. search needs)
-    mul-earlier
-    array-read-earlier
-    loop-less
-    loop-again
-    (λ c κs. search needs)
-    mul-lines
-    array-write-lines
-    sub-place
-    cast-place
-    mul-starts
-    array-write-starts
-    mul-befores
-    array-write-befores
-    mul-lasts
-    array-write-lasts
-    add-line
-    plan-less
-    plan-again
-    sub-loads
-    returns-2
-    (λ c κs. search needs)
-    (λ c κs. search needs)
+    (tie.spec Inv-loop μ-loop Inv-plan μ-plan (λ c κs. search needs) plan-holds (λ c κs. search needs) sub-note-load
+    part-note-load-start part-note-load-end (λ c. search needs) (λ c κs. search needs) (λ c κs. search needs) returns
+    sub-chamber cast-chamber mul-last array-read-last loop-holds sub-there cast-there mul-overlap array-read-overlap
+    (λ c κs. search needs) mul-earlier array-read-earlier loop-less loop-again (λ c κs. search needs) mul-lines
+    array-write-lines sub-place cast-place mul-starts array-write-starts mul-befores array-write-befores mul-lasts
+    array-write-lasts add-line plan-less plan-again sub-loads returns-2 (λ c κs. search needs) (λ c κs. search needs)
     returns-3)

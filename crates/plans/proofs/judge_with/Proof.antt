@@ -55,14 +55,5 @@ returns-2 c =
 pub judge-with-spec : {M : Type 1} → statement M
 judge-with-spec =
     tie.close
-    (tie.spec
-    (λ c. search needs)
-    (λ c. search needs)
-    read-orders-requires
-    returns
-    (λ c. search needs)
-    slice-aggregate-judge-plan
-    (λ c. search needs)
-    slice-aggregate-judge-plan-2
-    judge-plan-requires
-    returns-2)
+    (tie.spec (λ c. search needs) (λ c. search needs) read-orders-requires returns (λ c. search needs)
+    slice-aggregate-judge-plan (λ c. search needs) slice-aggregate-judge-plan-2 judge-plan-requires returns-2)

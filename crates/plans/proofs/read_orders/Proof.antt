@@ -101,23 +101,6 @@ returns-2 c =
 pub read-orders-spec : {M : Type 1} → statement M
 read-orders-spec =
     tie.close
-    (tie.spec
-    Inv-loop
-    μ-loop
-    loop-holds
-    (λ c κs. search needs)
-    (λ c κs. search needs)
-    same-length
-    same-length-2
-    returns
-    (λ c. search needs)
-    slice-write-readies
-    (λ c. search needs)
-    slice-write-dues
-    add-count
-    loop-less
-    loop-again
-    (λ c κs. search needs)
-    same-length-3
-    same-length-4
-    returns-2)
+    (tie.spec Inv-loop μ-loop loop-holds (λ c κs. search needs) (λ c κs. search needs) same-length same-length-2
+    returns (λ c. search needs) slice-write-readies (λ c. search needs) slice-write-dues add-count loop-less
+    loop-again (λ c κs. search needs) same-length-3 same-length-4 returns-2)

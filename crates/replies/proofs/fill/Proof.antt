@@ -46,13 +46,4 @@ returns c = filled-up _ _ (c .before .before .loop .inv) (sym (c .before .goes-o
 pub fill-spec : {M : Type 1} → statement M
 fill-spec =
     tie.close
-    (tie.spec
-    Inv-loop
-    μ-loop
-    loop-holds
-    goes-on-requires
-    put-behind-requires
-    loop-less
-    loop-again
-    same-length
-    returns)
+    (tie.spec Inv-loop μ-loop loop-holds goes-on-requires put-behind-requires loop-less loop-again same-length returns)

@@ -84,16 +84,6 @@ returns c =
 pub fill-hour-spec : {M : Type 1} → statement M
 fill-hour-spec =
     tie.close
-    (tie.spec
-    (λ c. search needs)
-    (λ c. search needs)
-    (λ c. search needs)
-    slice-aggregate-put-digits
-    (λ c κs. search needs)
-    (λ c. search needs)
-    (λ c. search needs)
-    (λ c. search needs)
-    part-put-digits-end
-    (λ c κs. search needs)
-    same-length
-    returns)
+    (tie.spec (λ c. search needs) (λ c. search needs) (λ c. search needs) slice-aggregate-put-digits
+    (λ c κs. search needs) (λ c. search needs) (λ c. search needs) (λ c. search needs) part-put-digits-end
+    (λ c κs. search needs) same-length returns)

@@ -78,21 +78,6 @@ returns-4 c =
 pub put-hour-spec : {M : Type 1} → statement M
 put-hour-spec =
     tie.close
-    (tie.spec
-    (λ c. search needs)
-    (λ c. search needs)
-    returns
-    returns-2
-    (λ c κs. search needs)
-    add-length
-    (λ c κs. search needs)
-    add-hour-end
-    (λ c. search needs)
-    (λ c. search needs)
-    part-write-hour-end
-    (λ c κs. search needs)
-    slice-write-buffer
-    add-past
-    (λ c. search needs)
-    returns-3
-    returns-4)
+    (tie.spec (λ c. search needs) (λ c. search needs) returns returns-2 (λ c κs. search needs) add-length
+    (λ c κs. search needs) add-hour-end (λ c. search needs) (λ c. search needs) part-write-hour-end
+    (λ c κs. search needs) slice-write-buffer add-past (λ c. search needs) returns-3 returns-4)

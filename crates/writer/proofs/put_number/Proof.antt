@@ -56,19 +56,6 @@ returns-3 c =
 pub put-number-spec : {M : Type 1} → statement M
 put-number-spec =
     tie.close
-    (tie.spec
-    (λ c. search needs)
-    (λ c. search needs)
-    returns
-    (λ c κs. search needs)
-    (λ c κs. search needs)
-    add-digits-end
-    (λ c. search needs)
-    (λ c. search needs)
-    part-put-digits-end
-    (λ c κs. search needs)
-    slice-write-buffer
-    add-past
-    (λ c. search needs)
-    returns-2
-    returns-3)
+    (tie.spec (λ c. search needs) (λ c. search needs) returns (λ c κs. search needs) (λ c κs. search needs)
+    add-digits-end (λ c. search needs) (λ c. search needs) part-put-digits-end (λ c κs. search needs)
+    slice-write-buffer add-past (λ c. search needs) returns-2 returns-3)

@@ -52,18 +52,6 @@ returns-3 c =
 pub put-word-spec : {M : Type 1} → statement M
 put-word-spec =
     tie.close
-    (tie.spec
-    (λ c. search needs)
-    (λ c. search needs)
-    returns
-    (λ c κs. search needs)
-    add-word-end
-    (λ c. search needs)
-    (λ c. search needs)
-    part-copy-end
-    copy-requires
-    slice-write-buffer
-    add-past
-    (λ c. search needs)
-    returns-2
+    (tie.spec (λ c. search needs) (λ c. search needs) returns (λ c κs. search needs) add-word-end (λ c. search needs)
+    (λ c. search needs) part-copy-end copy-requires slice-write-buffer add-past (λ c. search needs) returns-2
     returns-3)

@@ -70,13 +70,5 @@ returns-2 c =
 pub write-hour-spec : {M : Type 1} → statement M
 write-hour-spec =
     tie.close
-    (tie.spec
-    (λ c κs. search needs)
-    add-length
-    (λ c κs. search needs)
-    returns
-    slice-relend-prefix-fill-hour
-    slice-aggregate-fill-hour
-    fill-hour-requires
-    (λ c. search needs)
-    returns-2)
+    (tie.spec (λ c κs. search needs) add-length (λ c κs. search needs) returns slice-relend-prefix-fill-hour
+    slice-aggregate-fill-hour fill-hour-requires (λ c. search needs) returns-2)

@@ -36,12 +36,5 @@ returns-3 c =
 pub write-line-spec : {M : Type 1} → statement M
 write-line-spec =
     tie.close
-    (tie.spec
-    (λ c. search needs)
-    (λ c. search needs)
-    returns
-    returns-2
-    slice-aggregate-write-text
-    (λ c κs. search needs)
-    (λ c. search needs)
-    returns-3)
+    (tie.spec (λ c. search needs) (λ c. search needs) returns returns-2 slice-aggregate-write-text
+    (λ c κs. search needs) (λ c. search needs) returns-3)

@@ -30,10 +30,4 @@ returns-2 c =
 pub write-text-spec : {M : Type 1} → statement M
 write-text-spec =
     tie.close
-    (tie.spec
-    returns
-    (λ c. search needs)
-    slice-aggregate-copy
-    copy-requires
-    (λ c. search needs)
-    returns-2)
+    (tie.spec returns (λ c. search needs) slice-aggregate-copy copy-requires (λ c. search needs) returns-2)

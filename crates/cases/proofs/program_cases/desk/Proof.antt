@@ -20,14 +20,5 @@ loop-less c = c .reply-with-some .ensures
 pub desk-spec : {M : Type 1} → statement M
 desk-spec =
     tie.close
-    (tie.spec
-    Inv-loop
-    μ-loop
-    (λ c. search needs)
-    (λ c κs. search needs)
-    (λ c κs. search needs)
-    (λ c. search needs)
-    reply-with-some-requires
-    loop-less
-    (λ c. search needs)
-    (λ c. search needs))
+    (tie.spec Inv-loop μ-loop (λ c. search needs) (λ c κs. search needs) (λ c κs. search needs) (λ c. search needs)
+    reply-with-some-requires loop-less (λ c. search needs) (λ c. search needs))

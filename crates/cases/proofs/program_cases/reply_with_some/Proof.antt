@@ -21,11 +21,5 @@ returns c =
 pub reply-with-some-spec : {M : Type 1} → statement M
 reply-with-some-spec =
     tie.close
-    (tie.spec
-    (λ c κs. search needs)
-    (λ c. search needs)
-    (λ c κs. search needs)
-    (λ c. search needs)
-    slice-aggregate-part-of-text
-    (λ c κs. search needs)
-    returns)
+    (tie.spec (λ c κs. search needs) (λ c. search needs) (λ c κs. search needs) (λ c. search needs)
+    slice-aggregate-part-of-text (λ c κs. search needs) returns)

@@ -12,11 +12,5 @@ slice-aggregate-write-hour-to c = sym (length-take-le _ _ (omega arith))
 pub write-hour-spec : {M : Type 1} → statement M
 write-hour-spec =
     tie.close
-    (tie.spec
-    (λ c. search needs)
-    slice-aggregate-write-hour-to
-    (λ c κs. search needs)
-    (λ c. search needs)
-    (λ c. search needs)
-    (λ c κs. search needs)
-    (λ c. search needs))
+    (tie.spec (λ c. search needs) slice-aggregate-write-hour-to (λ c κs. search needs) (λ c. search needs)
+    (λ c. search needs) (λ c κs. search needs) (λ c. search needs))

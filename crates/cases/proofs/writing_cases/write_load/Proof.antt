@@ -12,11 +12,5 @@ slice-aggregate-write-load-to c = sym (length-take-le _ _ (omega arith))
 pub write-load-spec : {M : Type 1} → statement M
 write-load-spec =
     tie.close
-    (tie.spec
-    (λ c. search needs)
-    slice-aggregate-write-load-to
-    (λ c κs. search needs)
-    (λ c. search needs)
-    (λ c. search needs)
-    (λ c κs. search needs)
-    (λ c. search needs))
+    (tie.spec (λ c. search needs) slice-aggregate-write-load-to (λ c κs. search needs) (λ c. search needs)
+    (λ c. search needs) (λ c κs. search needs) (λ c. search needs))
