@@ -14,6 +14,9 @@ use Rattle.lines.specs.declared.Heading.{Heading}
 use Rattle.lines.specs.declared.Order.{Order}
 use Rattle.orders.specs.Answers.{orderLines, answersFrom, yeses, bookFor}
 use Rattle.orders.specs.Meaning.{CleanList}
+use Rattle.orders.proofs.Readings.{as-many-read, orders-exactly}
+use Rattle.orders.proofs.FirstLines.{lines-exactly}
+use Rattle.orders.proofs.Clean.{clean-list}
 use Rattle.orders.proofs.Promises.{clean-exactly}
 use Rattle.plans.specs.Judging.{judged}
 use Rattle.plans.specs.Meaning.{Obeys}
@@ -38,13 +41,14 @@ module _ (list plan : List ℕ) (obeys : Obeys list plan) where
 
   -- a plan has a load for each of its lines
   loads-counted : length (linesOf plan) ≡ length (map asPlanLoad (obeys .loads))
-  loads-counted = simp length-map (simp length-map at (ap length (obeys .good .read)))
+  loads-counted = simp length-map (rw (sym (lines-exactly .0 (obeys .cut))) (as-many-read (obeys .good .read)))
 
   -- the desk's yeses are what the rule keeps from chambers that are free from hour 0
   yeses-counted : yeses (answersFrom listBook (orderLines list)) ≡ keptOf (lengthsOf listBook) (replicate (listBook .chambers) 0) (map asOrder (obeys .orders))
   yeses-counted =
-      let few = heading-ranges (lineAt list 0) (obeys .heading) (obeys .clean .headed) .1 in
-      yeses-are-kept listBook (orderLines list) (obeys .orders) (obeys .clean .ordered .read) (clean-exactly list (obeys .heading) .1 (obeys .orders, obeys .clean) .1)
+      let clean = clean-list list (obeys .heading) (obeys .orders) .0 (obeys .clean) in
+      let few = heading-ranges (lineAt list 0) (obeys .heading) (clean .1) .1 in
+      yeses-are-kept listBook (orderLines list) (obeys .orders) (orders-exactly (orderLines list) (obeys .orders) .1 (clean .2 .read)) (clean-exactly list (obeys .heading) .1 (obeys .orders, obeys .clean) .1)
       ∙ ap (λ free. keptOf (lengthsOf listBook) free (map asOrder (obeys .orders))) (take-replicate (listBook .chambers) mostChambers 0 few)
 
   -- the limit, for the book of the plan's own list
@@ -54,7 +58,7 @@ module _ (list plan : List ℕ) (obeys : Obeys list plan) where
   obeying-limit =
       rw (loads-counted, yeses-counted)
       (limit (listBook .chambers) (lengthsOf listBook) (map asOrder (obeys .orders)) (map asPlanLoad (obeys .loads))
-      (in-turn (obeys .orders) (obeys .clean .ordered .in-turn)) (good-plan (obeys .heading) (obeys .orders) (linesOf plan) (obeys .loads) (obeys .good)))
+      (in-turn (obeys .orders) (obeys .clean .ordered .in-turn)) (good-plan (obeys .heading) (obeys .orders) (obeys .lines) (obeys .loads) (obeys .good)))
 
 -- the limit, for every clean list and every plan that the checker judges right
 pub limit-on-bytes :
@@ -62,5 +66,7 @@ pub limit-on-bytes :
     → yeses (answersFrom (bookFor heading) (orderLines list)) ≡ A → judged list plan ≡ right Z → ((m + 1) ^ m - m ^ m) * Z ≤ (m + 1) ^ m * A
 limit-on-bytes list plan heading orders m A Z clean chambers yeses judgement =
     let obeys = right-exactly list plan Z .0 judgement in
-    let same : heading ≡ obeys .0 .heading = same-right (sym (clean .headed) ∙ obeys .0 .clean .headed) in
+    let its = clean-list list heading orders .0 clean in
+    let same : heading ≡ obeys .0 .heading =
+    same-right (sym (its .1) ∙ clean-list list (obeys .0 .heading) (obeys .0 .orders) .0 (obeys .0 .clean) .1) in
     rw (obeys .1, ← chambers, ← yeses, same) (obeying-limit list plan (obeys .0))

@@ -26,8 +26,7 @@ use Rattle.book.specs.declared.Answer.the-variants.{Yes}
 use Rattle.lines.specs.declared.Heading.{Heading}
 use Rattle.lines.specs.declared.Order.{Order}
 use Rattle.orders.specs.Answers.{bookFor, orderLines, answersFrom, yeses, yesPlan}
-use Rattle.orders.specs.Meaning.{Each, CleanList}
-use Rattle.orders.specs.History.{FirstOf}
+use Rattle.orders.specs.Meaning.{FirstOf, Each, CleanList}
 use Rattle.orders.proofs.Promises.{first-and-further}
 use Rattle.replies.specs.Replies.{replyOf}
 use Rattle.plans.specs.Judging.{judged}

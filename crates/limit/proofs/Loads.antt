@@ -1,15 +1,16 @@
 -- The loads of plan lines with no fault are a good plan. Assumes nothing.
 use Prim.Native.Nat.{ℕ, _+_, _-_, _≤_}
 use mathlib.Core.Path.{_≡_}
-use mathlib.Core.List.{List, [], _∷_, _++_, map, nil≢cons, cons≢nil, head-eq-of-cons-eq, tail-eq-of-cons-eq}
+use mathlib.Core.List.{List, [], _∷_, _++_, map}
 use lib.ListN.{length}
 use native.Mathlib.Omega.{arith}
 use Rattle.ground.specs.Limits.{firstOrderLine}
 use Rattle.lines.specs.declared.Heading.{Heading}
 use Rattle.lines.specs.declared.Order.{Order}
 use Rattle.lines.specs.declared.Load.{Load}
-use Rattle.lines.proofs.Promises.{load-ranges}
-use Rattle.orders.specs.Meaning.{Each}
+use Rattle.lines.specs.Meaning.{LoadReads}
+use Rattle.lines.proofs.Promises.{load-reads, load-ranges}
+use Rattle.orders.specs.Meaning.{EachReads, none-left, one-more, Each, EachTwo}
 use Rattle.plans.specs.Meaning.{InTime, holdOf, Apart, GoodLoads}
 use Rattle.orders.proofs.Each.{each-first, each-rest, two-first, two-rest}
 use Rattle.bound.specs.Plans.{KeepsTo, ApartFrom, GoodPlan}
@@ -52,19 +53,23 @@ module _ (heading : Heading) (orders : List Order) where
   apart-from one (other ∷ loads) in-time each apart =
       (both-apart one other in-time (each-first each) (each-first apart), apart-from one loads in-time (each-rest each) (each-rest apart))
 
-  -- plan lines with no fault: their loads are a good plan for the orders of the list
+  -- loads that read, are in time and are apart are a good plan for the orders of the list
+  reads-good :
+      {lines : List (List ℕ)} {loads : List Load} → EachReads (LoadReads (heading .chambers)) lines loads
+      → Each (InTime (heading .run) orders) loads → EachTwo (Apart (holdOf heading)) loads
+      → GoodPlan (heading .chambers) (lengthsOf (bookFor heading)) (map asOrder orders) (map asPlanLoad loads)
+  unfolding GoodPlan
+  reads-good none-left in-time apart = tt
+  reads-good {loads = load ∷ loads} (one-more {line = line} read others) in-time apart =
+      let first = each-first in-time in
+      let ranges = load-ranges (heading .chambers) line load (load-reads (heading .chambers) line load .1 read) in (
+        record { keeps = keeps-to load first; numbered = (ranges .1, ranges .2) },
+        apart-from load loads first (each-rest in-time) (two-first apart),
+        reads-good others (each-rest in-time) (two-rest apart),
+      )
+
+  -- so are those of plan lines with no fault
   pub good-plan :
       (lines : List (List ℕ)) (loads : List Load) → GoodLoads heading orders lines loads
       → GoodPlan (heading .chambers) (lengthsOf (bookFor heading)) (map asOrder orders) (map asPlanLoad loads)
-  unfolding GoodPlan
-  good-plan [] [] good = tt
-  good-plan [] (load ∷ loads) good = absurd (nil≢cons (good .read))
-  good-plan (line ∷ lines) [] good = absurd (cons≢nil (good .read))
-  good-plan (line ∷ lines) (load ∷ loads) good =
-      let in-time = each-first (good .in-time) in
-      let ranges = load-ranges (heading .chambers) line load (head-eq-of-cons-eq (good .read)) in (
-        record { keeps = keeps-to load in-time; numbered = (ranges .1, ranges .2) },
-        apart-from load loads in-time (each-rest (good .in-time)) (two-first (good .apart)),
-        good-plan lines loads
-            (record { read = tail-eq-of-cons-eq (good .read); in-time = each-rest (good .in-time); apart = two-rest (good .apart) }),
-      )
+  good-plan lines loads good = reads-good (good .read) (good .in-time) (good .apart)

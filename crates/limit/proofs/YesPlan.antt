@@ -16,6 +16,9 @@ use Rattle.book.specs.declared.Answer.{Answer}
 use Rattle.orders.specs.Answers.{orderLines, answersFrom, yeses, yesPlan, bookFor}
 use Rattle.orders.specs.Meaning.{Each, CleanList}
 use Rattle.orders.proofs.Each.{each-so}
+use Rattle.orders.proofs.Readings.{orders-exactly, loads-exactly}
+use Rattle.orders.proofs.FirstLines.{lines-exactly}
+use Rattle.orders.proofs.Clean.{clean-list}
 use Rattle.plans.specs.Judging.{judged}
 use Rattle.plans.specs.Meaning.{InTime, Obeys}
 use Rattle.plans.proofs.Promises.{right-exactly}
@@ -64,12 +67,14 @@ module _ (list : List ℕ) (heading : Heading) (orders : List Order) (clean : Cl
 
   -- they are given from that book on
   loads-given : GivenLoads firstOrderLine book orders loads
-  loads-given = yeses-given firstOrderLine book (length-replicate {A = ℕ} mostChambers 0) (orderLines list) orders (clean .ordered .read)
+  loads-given =
+      yeses-given firstOrderLine book (length-replicate {A = ℕ} mostChambers 0) (orderLines list) orders
+      (orders-exactly (orderLines list) orders .1 (clean-list list heading orders .0 clean .2 .read))
 
   -- they can be written
   pub loads-writable : Each (Writable (heading .chambers)) loads
   loads-writable =
-      each-so (given-writable (heading-ranges (lineAt list 0) heading (clean .headed) .1) (clean .ordered .few)) (loads-given .each)
+      each-so (given-writable (heading-ranges (lineAt list 0) heading (clean-list list heading orders .0 clean .1) .1) (clean .ordered .few)) (loads-given .each)
 
   -- the lines of their plan are the loads as plan lines
   plan-lines : linesOf (yesPlan firstOrderLine answers) ≡ map loadText loads
@@ -89,12 +94,17 @@ module _ (list : List ℕ) (heading : Heading) (orders : List Order) (clean : Cl
       record {
         heading = heading;
         orders = orders;
+        lines = map loadText loads;
         loads = loads;
         clean = clean;
         fits = plan-fits;
+        cut = lines-exactly .1 (sym plan-lines);
         good =
-            rw plan-lines
-            (record { read = loads-read loads loads-writable; in-time = each-so given-in-time (loads-given .each); apart = loads-given .apart });
+            record {
+              read = loads-exactly (heading .chambers) (map loadText loads) loads .0 (loads-read loads loads-writable);
+              in-time = each-so given-in-time (loads-given .each);
+              apart = loads-given .apart;
+            };
       }
 
   -- 3a: the yeses of a clean list, written as plan lines, are judged right with their number

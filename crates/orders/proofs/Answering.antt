@@ -1,8 +1,6 @@
--- Lines answered one after another: the answers and the book past them are those that
--- the definitions compute, whatever way it is said that a line
--- reads as an order, that it has a fault and that a book takes an order; the answer to
--- a line is that of the book past the lines before it; and a
--- refusal from a sound book on is 1 to 6. Assumes nothing.
+-- Lines answered one after another: the answers and the book past them are those that the definitions compute, whatever way it is said
+-- that a book takes an order; the answer to a line is that of the book past the lines before it; and a refusal from a sound book on is
+-- 1 to 6. Assumes nothing.
 use Prim.Native.Nat.{ℕ, _≤_}
 use mathlib.Core.Path.{_≡_, refl, ap, _∙_}
 use mathlib.Core.Logic.{_↔_, ⊎-elim}
@@ -13,7 +11,7 @@ use Rattle.ground.specs.Refusal.{Read, wrong, right}
 use Rattle.ground.proofs.Refusal.{same-wrong}
 use Rattle.lines.specs.Reading.{orderOf}
 use Rattle.lines.specs.declared.Order.{Order}
-use Rattle.lines.proofs.Promises.{order-fault, line-fault-from}
+use Rattle.lines.proofs.Promises.{order-reads, order-fault, line-fault-from}
 use Rattle.choice.specs.declared.Choice.{Choice}
 use Rattle.choice.specs.declared.Choice.the-variants.{Nothing, Chamber}
 use Rattle.book.specs.Taking.{decided, nextBook, answerOf, Answered}
@@ -41,47 +39,43 @@ taken-exactly book ready due taken = (
 )
 
 module _
-    (Reads : List ℕ → Order → Type 0)
-    (Fault : List ℕ → ℕ → Type 0)
     (Takes : Book → ℕ → ℕ → Taken → Type 0)
-    (reads : (line : List ℕ) (order : Order) → (orderOf line ≡ right order) ↔ Reads line order)
-    (faulty : (line : List ℕ) (number : ℕ) → (orderOf line ≡ wrong number) ↔ Fault line number)
     (takes : (book : Book) (ready due : ℕ) (taken : Taken) → Takes book ready due taken ↔ (taken ≡ takenBy book ready due)) where
   -- they are answered as computed
   answered-to :
-      {book last : Book} {lines : List (List ℕ)} {answers : List Answer} → Answers Reads Fault Takes book lines answers last
+      {book last : Book} {lines : List (List ℕ)} {answers : List Answer} → Answers Takes book lines answers last
       → (answers ≡ answersFrom book lines) × (last ≡ bookAfter book lines)
   unfolding answersFrom bookAfter
   answered-to none-left = (refl, refl)
   answered-to {book} (read-line line order taken read takes-it others) =
       let later = answered-to others in
-      let read-as : orderOf line ≡ right order = reads line order .1 read in
+      let read-as : orderOf line ≡ right order = order-reads line order .1 read in
       let same : taken ≡ takenBy book (order .ready) (order .due) = takes book (order .ready) (order .due) taken .0 takes-it in
       rw (read-as, later .0, later .1, same) (refl, refl)
   answered-to (faulty-line line number fault others) =
       let later = answered-to others in
-      let refused : orderOf line ≡ wrong number = faulty line number .1 fault in
+      let refused : orderOf line ≡ wrong number = order-fault line number .1 fault in
       rw (refused, later .0, later .1) (refl, refl)
 
   -- and what is computed answers them
-  answered-from : (book : Book) (lines : List (List ℕ)) → Answers Reads Fault Takes book lines (answersFrom book lines) (bookAfter book lines)
+  answered-from : (book : Book) (lines : List (List ℕ)) → Answers Takes book lines (answersFrom book lines) (bookAfter book lines)
   unfolding answersFrom bookAfter
   answered-from book [] = none-left
   answered-from book (line ∷ lines) = go (orderOf line) refl (answered-from (bookPast book (orderOf line)) lines)
     where
       go :
           (read : Read Order) → orderOf line ≡ read
-          → Answers Reads Fault Takes (bookPast book read) lines (answersFrom (bookPast book read) lines) (bookAfter (bookPast book read) lines)
-          → Answers Reads Fault Takes book (line ∷ lines) (answerOf (decision book read) ∷ answersFrom (bookPast book read) lines)
+          → Answers Takes (bookPast book read) lines (answersFrom (bookPast book read) lines) (bookAfter (bookPast book read) lines)
+          → Answers Takes book (line ∷ lines) (answerOf (decision book read) ∷ answersFrom (bookPast book read) lines)
           (bookAfter (bookPast book read) lines)
-      go (wrong number) refused others = faulty-line line number (faulty line number .0 refused) others
+      go (wrong number) refused others = faulty-line line number (order-fault line number .0 refused) others
       go (right order) read others =
-          read-line line order (takenBy book (order .ready) (order .due)) (reads line order .0 read)
+          read-line line order (takenBy book (order .ready) (order .due)) (order-reads line order .0 read)
           (takes book (order .ready) (order .due) (takenBy book (order .ready) (order .due)) .1 refl) others
 
   pub answered-exactly :
       (book : Book) (lines : List (List ℕ)) (answers : List Answer) (last : Book)
-      → Answers Reads Fault Takes book lines answers last ↔ ((answers ≡ answersFrom book lines) × (last ≡ bookAfter book lines))
+      → Answers Takes book lines answers last ↔ ((answers ≡ answersFrom book lines) × (last ≡ bookAfter book lines))
   answered-exactly book lines answers last = (answered-to, λ same. rw (same .0, same .1) (answered-from book lines))
 
 -- the answer to a line is what the book past the lines before it answers

@@ -16,7 +16,7 @@ use Rattle.texts.specs.Lines.{lineAt}
 use Rattle.lines.specs.Reading.{headingOf, orderOf}
 use Rattle.lines.specs.declared.Heading.{Heading}
 use Rattle.lines.specs.declared.Order.{Order}
-use Rattle.lines.proofs.Promises.{heading-ranges, order-ranges, order-fault}
+use Rattle.lines.proofs.Promises.{heading-reads, heading-ranges, order-reads, order-ranges, order-fault}
 use Rattle.choice.specs.BestFit.{bestFit}
 use Rattle.choice.specs.declared.Choice.{Choice}
 use Rattle.choice.specs.declared.Choice.the-variants.{Nothing, Chamber}
@@ -29,6 +29,8 @@ use Rattle.book.proofs.Promises.{stays-sound, refused-by-eight, refused-by-four
 use Rattle.orders.specs.Answers.{bookFor, opening, orderLines, answersFrom, bookAfter, decision, bookPast, refusalsIn, refusals}
 use Rattle.orders.specs.Meaning.{Each, EachTwo, Some, CleanOrders, CleanList, OrderWrong, misread, full, out-of-turn}
 use Rattle.orders.proofs.Each.{each-none, each-before, each-first, each-rest, each-behind, each-last, each-front, two-none, two-before, two-first, two-rest}
+use Rattle.orders.proofs.Readings.{orders-exactly}
+use Rattle.orders.proofs.FirstLines.{first-exactly}
 use Rattle.orders.proofs.Beginning.{heading-right, heading-wrong, opened-within}
 
 -- a book past these orders: it is sound and has counted them, and its clock is the ready hour of the last
@@ -156,20 +158,22 @@ module _ (book : Book) (seen : List Order) (tracks : Tracks seen book) where
       (⊎-elim
       (λ six.
       let facts = refused-by-six book (order .ready) (order .due) .0 (rw six at refused) in
-      rw six (full order read (omega (arith, facts .3, tracks .taken))))
+      rw six (full order (order-reads line order .0 read) (omega (arith, facts .3, tracks .taken))))
       (λ five.
       let facts = refused-by-five book (order .ready) (order .due) .0 (rw five at refused) in
-      rw five (out-of-turn order read (omega (arith, facts .3, tracks .taken)) (tracks .clock (order .ready) (facts .4))))))
+      rw five (out-of-turn order (order-reads line order .0 read) (omega (arith, facts .3, tracks .taken)) (tracks .clock (order .ready) (facts .4))))))
       (refused-by-no-other book (order .ready) (order .due) number refused)
 
   -- by its first fault a line is refused
   wrong-to : (line : List ℕ) {number : ℕ} → OrderWrong seen line number → decision book (orderOf line) ≡ wrong number
   wrong-to line {number} (misread fault) = let read : orderOf line ≡ wrong number = order-fault line number .1 fault in rw read
-  wrong-to line (full order read count) =
+  wrong-to line (full order reads count) =
+      let read = order-reads line order .1 reads in
       let most = read-most line order read in
       decision-reads book line order read
       ∙ refused-by-six book (order .ready) (order .due) .1 (tracks .sound, most .0, most .1, omega (arith, tracks .taken, count))
-  wrong-to line (out-of-turn order read room some) =
+  wrong-to line (out-of-turn order reads room some) =
+      let read = order-reads line order .1 reads in
       let most = read-most line order read in
       let before : order .ready < book .clock =
       omega (arith, some .holds, tracks .reached .holds (some .front) (some .one) (some .rest) (some .among)) in
@@ -270,10 +274,10 @@ clean-to book seen tracks (line ∷ lines) (order ∷ orders) clean =
 -- behind none they are clean by themselves
 behind-none : (lines : List (List ℕ)) (orders : List Order) → CleanBehind [] lines orders ↔ CleanOrders lines orders
 behind-none lines orders = (
-  λ clean. record { read = clean .read; few = omega (arith, clean .few); in-turn = clean .in-turn },
+  λ clean. record { read = orders-exactly lines orders .0 (clean .read); few = omega (arith, clean .few); in-turn = clean .in-turn },
   λ clean.
       record {
-        read = clean .read;
+        read = orders-exactly lines orders .1 (clean .read);
         few = omega (arith, clean .few);
         behind = record { holds = λ front one rest e. each-none };
         in-turn = clean .in-turn;
@@ -324,6 +328,26 @@ same-heading one other same =
     let run : one .run ≡ other .run = ap (λ (book : Book). book .run) same in
     λ i. record { chambers = chambers i; run = run i }
 
+-- a list is clean exactly when its length, the line at its top and its order lines are so
+pub clean-list :
+    (list : List ℕ) (heading : Heading) (orders : List Order)
+    → CleanList list heading orders
+    ↔ ((length list ≤ longestText) × (headingOf (lineAt list 0) ≡ right heading) × CleanOrders (orderLines list) orders)
+clean-list list heading orders = (
+  λ clean.
+      let same = first-exactly list (clean .first) (clean .further) .0 (clean .parts) in
+      (clean .fits, rw (same .0) at (heading-reads (clean .first) heading .1 (clean .headed)), rw (same .1) at (clean .ordered)),
+  λ p.
+      record {
+        first = lineAt list 0;
+        further = orderLines list;
+        fits = p .0;
+        parts = first-exactly list (lineAt list 0) (orderLines list) .1 (refl, refl);
+        headed = heading-reads (lineAt list 0) heading .0 (p .1);
+        ordered = p .2;
+      },
+)
+
 -- a list is clean exactly when it begins and the desk refuses none of its lines
 pub clean-exactly :
     (list : List ℕ) (heading : Heading)
@@ -334,10 +358,10 @@ clean-exactly list heading = (
       let begun = begun-headed list (bookFor heading) (p .0) in
       let headed : headingOf (lineAt list 0) ≡ right heading = begun .1 ∙ ap right (same-heading (begun .0) heading (sym (begun .2))) in
       let q = unrefused-clean (lineAt list 0) heading headed (orderLines list) (p .1) in
-      (q .0, record { fits = opened-within list (bookFor heading) (p .0); headed = headed; ordered = q .1 }),
+      (q .0, clean-list list heading (q .0) .1 (opened-within list (bookFor heading) (p .0), headed, q .1)),
   λ p.
-      let clean = p .1 in (
-        heading-right list (clean .fits) heading (clean .headed),
-        clean-unrefused (lineAt list 0) heading (clean .headed) (orderLines list) (p .0) (clean .ordered) .0,
+      let clean = clean-list list heading (p .0) .0 (p .1) in (
+        heading-right list (clean .0) heading (clean .1),
+        clean-unrefused (lineAt list 0) heading (clean .1) (orderLines list) (p .0) (clean .2) .0,
       ),
 )

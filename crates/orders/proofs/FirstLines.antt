@@ -9,19 +9,24 @@ use native.Mathlib.Omega.{arith}
 use borrow.Author.Tests.{ltb-true, ltb-false}
 use Rattle.ground.proofs.Tests.{by-test}
 use Rattle.texts.specs.Lines.{linesOf, lineAt, pastLine}
-use Rattle.texts.specs.Meaning.{joined}
 use Rattle.texts.proofs.Promises.{lines-joined, lines-are, lines-only, walk-on, walk-done}
 use Rattle.orders.specs.Answers.{orderLines}
-use Rattle.orders.specs.History.{FirstOf}
-use Rattle.orders.specs.History.FirstOf.{of-none, of-lines}
+use Rattle.orders.specs.Meaning.{HasLines, FirstOf, of-none, of-lines}
 use Rattle.orders.proofs.Places.{begun-left}
+
+-- a text has just its lines
+pub lines-exactly : {text : List ℕ} {lines : List (List ℕ)} → HasLines text lines ↔ (lines ≡ linesOf text)
+lines-exactly {text} {lines} = (
+  λ has. sym (lines-only lines (has .0)) ∙ ap linesOf (has .1),
+  λ same. rw same (lines-are text, lines-joined text),
+)
 
 -- a text with a first line is empty, or has that line and the further ones
 first-lines :
     {text line : List ℕ} {further : List (List ℕ)} → FirstOf text line further
     → ((text ≡ []) × (line ≡ []) × (further ≡ [])) ⊎ (linesOf text ≡ line ∷ further)
 first-lines of-none = inl (refl, refl, refl)
-first-lines {text} {line} {further} (of-lines are e) = inr (ap linesOf (sym e) ∙ lines-only (line ∷ further) are)
+first-lines (of-lines has) = inr (sym (lines-exactly .0 has))
 
 module _ (text : List ℕ) (at : ℕ) where
   -- what a text has from a place on: a line and the others, or nothing
@@ -38,7 +43,7 @@ module _ (text : List ℕ) (at : ℕ) where
   -- the line there is its first line
   pub first-there : FirstOf (drop at text) (lineAt text at) (linesOf (drop (pastLine text at) text))
   first-there =
-      left (λ inside e. of-lines (rw e at (lines-are (drop at text))) (ap joined (sym e) ∙ lines-joined (drop at text)))
+      left (λ inside e. of-lines (lines-exactly .1 (sym e)))
       (λ empty lines line others. rw (line, others, empty) of-none)
 
   -- and no other is

@@ -1,5 +1,6 @@
 -- The laws of this room, by what they are about.
 pub mod Each
+pub mod Readings
 pub mod Beginning
 pub mod Places
 pub mod Counting

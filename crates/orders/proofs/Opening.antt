@@ -15,22 +15,23 @@ use Rattle.ground.proofs.Tests.{by-test, never-both}
 use Rattle.texts.specs.Lines.{lineAt, pastLine}
 use Rattle.texts.proofs.Lines.{past-is}
 use Rattle.lines.specs.Reading.{headingOf}
-use Rattle.lines.specs.Meaning.{HeadingFault}
+use Rattle.lines.specs.Meaning.{HeadingReads, HeadingFault}
 use Rattle.lines.specs.declared.Heading.{Heading}
-use Rattle.lines.proofs.Promises.{heading-ranges, heading-fault}
+use Rattle.lines.proofs.Promises.{heading-reads, heading-ranges, heading-fault}
 use Rattle.book.specs.Meaning.{Sound}
 use Rattle.book.specs.declared.Book.{Book}
 use Rattle.book.proofs.Soundness.{fresh-sound}
 use Rattle.orders.specs.Answers.{bookFor, opening, notBegun, begunBy}
-use Rattle.orders.specs.History.{FirstOf, newBook}
+use Rattle.orders.specs.Meaning.{FirstOf}
+use Rattle.orders.specs.History.{newBook}
 use Rattle.orders.specs.declared.Begun.{Begun}
 use Rattle.orders.proofs.Beginning.{too-long, heading-right, heading-wrong, opened-within, first-line-refused, refused-by-nine, refused-by-its-first-line}
 use Rattle.orders.proofs.FirstLines.{first-only}
 use Rattle.orders.proofs.begin.Reads as begin
 
 -- the numbers of a first line are those of a sound book
-pub heading-sound : (line : List ℕ) (heading : Heading) → headingOf line ≡ right heading → Sound (newBook (heading .chambers) (heading .run))
-heading-sound line heading reads = fresh-sound (heading .chambers) (heading .run) (heading-ranges line heading reads)
+pub heading-sound : (line : List ℕ) (heading : Heading) → HeadingReads line heading → Sound (newBook (heading .chambers) (heading .run))
+heading-sound line heading reads = fresh-sound (heading .chambers) (heading .run) (heading-ranges line heading (heading-reads line heading .1 reads))
 
 module _ (text first : List ℕ) (further : List (List ℕ)) (cut : FirstOf text first further) where
   -- its first line is the line at its top
@@ -41,18 +42,18 @@ module _ (text first : List ℕ) (further : List (List ℕ)) (cut : FirstOf text
   pub opens-exactly :
       (book : Book)
       → (opening text ≡ right book)
-      ↔ ((length text ≤ 65_536) × ((heading : Heading) × (headingOf first ≡ right heading) × (book ≡ newBook (heading .chambers) (heading .run))))
+      ↔ ((length text ≤ 65_536) × ((heading : Heading) × HeadingReads first heading × (book ≡ newBook (heading .chambers) (heading .run))))
   opens-exactly book = (
     λ begun. let within = opened-within text book begun in (within, headed within begun (headingOf (lineAt text 0)) refl),
-    λ p. heading-right text (p .0) (p .1 .0) (rw at-top at (p .1 .1)) ∙ ap right (sym (p .1 .2)),
+    λ p. heading-right text (p .0) (p .1 .0) (rw at-top at (heading-reads first (p .1 .0) .1 (p .1 .1))) ∙ ap right (sym (p .1 .2)),
   )
     where
       headed :
           length text ≤ 65_536 → opening text ≡ right book → (read : Read Heading) → headingOf (lineAt text 0) ≡ read
-          → (heading : Heading) × (headingOf first ≡ right heading) × (book ≡ newBook (heading .chambers) (heading .run))
+          → (heading : Heading) × HeadingReads first heading × (book ≡ newBook (heading .chambers) (heading .run))
       headed within begun (wrong number) reads = absurd (never-right (sym (heading-wrong text within number reads) ∙ begun))
       headed within begun (right heading) reads =
-          (heading, ap headingOf at-top ∙ reads, same-right (sym begun ∙ heading-right text within heading reads))
+          (heading, heading-reads first heading .0 (ap headingOf at-top ∙ reads), same-right (sym begun ∙ heading-right text within heading reads))
 
   -- and is refused exactly by 9 for its length, and else by the fault of its first line
   pub rejects-exactly :
@@ -89,11 +90,11 @@ module _ (κs : Lfts 1) (text : RefT (List ℕ)) (begun : Begun) (after : _) (le
 
     -- and one that begins
     pub begun-reading :
-        (heading : Heading) → headingOf first ≡ right heading
+        (heading : Heading) → HeadingReads first heading
         → begun
         ≡ record { refusal = 0; progress = record { at = length first; line = 2; book = newBook (heading .chambers) (heading .run) } }
     begun-reading heading reads =
         let line = first-only (now text) 0 cut .0 in
         let place : pastLine (now text) 0 ≡ length first = rw line (omega (arith, past-is (now text) 0)) in
-        learnt ∙ ap (begunBy (now text)) (heading-right (now text) within heading (rw line at reads))
+        learnt ∙ ap (begunBy (now text)) (heading-right (now text) within heading (rw line at (heading-reads first heading .1 reads)))
         ∙ (λ i. record { refusal = 0; progress = record { at = place i; line = 2; book = bookFor heading } })

@@ -17,10 +17,10 @@ use Rattle.texts.specs.Lines.{linesOf, lineLength, lineAt}
 use Rattle.texts.specs.Meaning.{joined, AreLines}
 use Rattle.fields.specs.Fields.{isEnded, shapeOf}
 use Rattle.lines.specs.Reading.{lineOf, headingOf, orderOf}
-use Rattle.lines.specs.Meaning.{HeadingFault, OrderFault}
+use Rattle.lines.specs.Meaning.{HeadingReads, HeadingFault, OrderReads, OrderFault}
 use Rattle.lines.specs.declared.Heading.{Heading}
 use Rattle.lines.specs.declared.Order.{Order}
-use Rattle.lines.proofs.Promises.{order-fault, line-fault-from}
+use Rattle.lines.proofs.Promises.{heading-reads, order-reads, order-fault, line-fault-from}
 use Rattle.planlines.specs.Writing.{planText}
 use Rattle.book.specs.Taking.{decided, told, answerOf}
 use Rattle.book.specs.declared.Book.{Book}
@@ -30,7 +30,8 @@ use Rattle.book.specs.declared.Answer.the-variants.{Yes, No, Refused}
 use Rattle.book.proofs.Promises.{answer-told}
 use Rattle.book.proofs.Book.take.Reads as take
 use Rattle.orders.specs.Answers.{bookFor, opening, orderLines, answersFrom, bookAfter, decision, bookPast, refusals, yeses, yesPlan, begunBy, progressPast}
-use Rattle.orders.specs.History.{FirstOf, of-lines, newBook, Answers, Counts}
+use Rattle.orders.specs.Meaning.{HasLines, FirstOf, of-lines, CleanOrders, CleanList, OrderWrong}
+use Rattle.orders.specs.History.{newBook, Answers, Counts}
 use Rattle.orders.specs.declared.Begun.{Begun}
 use Rattle.orders.specs.declared.Progress.{Progress}
 use Rattle.orders.specs.declared.Step.{Step}
@@ -43,12 +44,7 @@ use Rattle.orders.proofs.Answering as answering
 use Rattle.orders.proofs.Tallies as tallies
 use Rattle.orders.proofs.begin.Reads as begin
 use Rattle.orders.proofs.next.Reads as next
-use Rattle.orders.specs.Meaning.{CleanOrders, CleanList, OrderWrong}
 use Rattle.orders.proofs.Clean as clean
-
--- a line reads as an order; what that means is promised where lines are read
-abbrev ReadsAs : List ℕ → Order → Type 0
-ReadsAs line order = orderOf line ≡ right order
 
 -- 2g: of a text of any length the first line is the line at its top, and the further ones are the order lines
 pub first-and-further :
@@ -57,7 +53,7 @@ first-and-further = first-lines.first-exactly
 
 -- in other words: the order lines are what stands behind the first of any lines, and a text that is not empty has its first line and these
 pub orders-behind-the-first : (first : List ℕ) (further : List (List ℕ)) → AreLines (first ∷ further) → orderLines (joined (first ∷ further)) ≡ further
-orders-behind-the-first first further are = sym (first-and-further (joined (first ∷ further)) first further .0 (of-lines are refl) .1)
+orders-behind-the-first first further are = sym (first-and-further (joined (first ∷ further)) first further .0 (of-lines (are, refl)) .1)
 
 pub lines-are-first-and-orders : (text : List ℕ) → 0 < length text → linesOf text ≡ lineAt text 0 ∷ orderLines text
 lines-are-first-and-orders = first-lines.first-and-orders
@@ -67,7 +63,7 @@ module _ (text first : List ℕ) (further : List (List ℕ)) (cut : FirstOf text
   pub opening-right :
       (book : Book)
       → (opening text ≡ right book)
-      ↔ ((length text ≤ 65_536) × ((heading : Heading) × (headingOf first ≡ right heading) × (book ≡ newBook (heading .chambers) (heading .run))))
+      ↔ ((length text ≤ 65_536) × ((heading : Heading) × HeadingReads first heading × (book ≡ newBook (heading .chambers) (heading .run))))
   opening-right = openings.opens-exactly text first further cut
 
   -- 1b: it is refused by 9 exactly when it is longer, and else by the first fault of its first line
@@ -100,7 +96,7 @@ module _ (κs : Lfts 1) (text : RefT (List ℕ)) (begun : Begun) (after : _) (le
 
     -- and one whose first line reads begins: no refusal, the place past that line, line 2, and a fresh book
     pub begin-reading :
-        (heading : Heading) → headingOf first ≡ right heading
+        (heading : Heading) → HeadingReads first heading
         → begun
         ≡ record { refusal = 0; progress = record { at = length first; line = 2; book = newBook (heading .chambers) (heading .run) } }
     begin-reading = openings.begun-reading κs text begun after learnt first further cut within
@@ -110,7 +106,7 @@ module _ (κs : Lfts 1) (text : RefT (List ℕ)) (progress : Progress) (step : S
   module _ (line : List ℕ) (further : List (List ℕ)) (cut : FirstOf (drop (progress .at) (now text)) line further) where
     -- a line that reads as an order: that order, what `take` answers to its hours, the next place and number, and the next book
     pub next-reading :
-        (order : Order) → orderOf line ≡ right order → (κ : Lfts 0) (taken : Taken) (exit : _)
+        (order : Order) → OrderReads line order → (κ : Lfts 0) (taken : Taken) (exit : _)
         → take.Learnt κ (progress .book, (order .ready, (order .due, tt))) taken exit
         → step
         ≡ record {
@@ -149,8 +145,8 @@ module _ (book : Book) (line : List ℕ) where
   decided-at-fault number fault = let refused = order-fault line number .1 fault in (ap (decision book) refused, ap (bookPast book) refused)
 
   -- else what the book decides of the order read, number for number
-  pub decided-reading : (order : Order) → orderOf line ≡ right order → decision book (orderOf line) ≡ decided book (order .ready) (order .due)
-  decided-reading order reads = ap (decision book) reads
+  pub decided-reading : (order : Order) → OrderReads line order → decision book (orderOf line) ≡ decided book (order .ready) (order .due)
+  decided-reading order reads = ap (decision book) (order-reads line order .1 reads)
 
 -- 1c: a refused line leaves the book as it stood
 pub refused-line-stays : (book : Book) (order : Read Order) (number : ℕ) → decision book order ≡ wrong number → bookPast book order ≡ book
@@ -168,16 +164,13 @@ module _ (κs : Lfts 0) (exit : Book × (ℕ × (ℕ × Unit {0}))) where
   Taking book ready due taken = take.Learnt κs (book, (ready, (due, tt))) taken exit
 
   abbrev Answered : Book → List (List ℕ) → List Answer → Book → Type 0
-  Answered = Answers ReadsAs OrderFault Taking
+  Answered = Answers Taking
 
   module _ (book : Book) (lines : List (List ℕ)) (answers : List Answer) (last : Book) where
     -- the answers to lines and the book past them: each line that reads is taken by the book past those before it, and each other is
-    -- refused by its
-    -- fault and leaves that book
+    -- refused by its fault and leaves that book
     pub answered-exactly : Answered book lines answers last ↔ ((answers ≡ answersFrom book lines) × (last ≡ bookAfter book lines))
-    answered-exactly =
-        answering.answered-exactly ReadsAs OrderFault Taking (λ line order. (λ reads. reads, λ reads. reads)) order-fault answering.taken-exactly book lines answers
-        last
+    answered-exactly = answering.answered-exactly Taking answering.taken-exactly book lines answers last
 
     module _ (answered : Answered book lines answers last) where
       -- there are as many answers as lines
@@ -188,11 +181,11 @@ module _ (κs : Lfts 0) (exit : Book × (ℕ × (ℕ × Unit {0}))) where
       -- the clock is the ready hour of the last line not refused
       pub counted-exactly :
           (kept taken clock : ℕ)
-          → Counts ReadsAs (book .clock) lines answers kept taken clock
+          → Counts (book .clock) lines answers kept taken clock
           ↔ ((last .kept ≡ book .kept + kept) × (last .taken ≡ book .taken + taken) × (last .clock ≡ clock))
       counted-exactly =
           let same = answered-exactly .0 answered in
-          rw (same .0, same .1) (tallies.counted ReadsAs (λ line order. (λ reads. reads, λ reads. reads)) book lines)
+          rw (same .0, same .1) (tallies.counted book lines)
 
   -- The answer to a line with others before it and behind it, the book having come so far.
   module _
@@ -205,13 +198,13 @@ module _ (κs : Lfts 0) (exit : Book × (ℕ × (ℕ × Unit {0}))) where
       (all : Answered book (front ++ line ∷ rest) answers last) where
     -- where it reads it is what that book answers to its order
     pub answer-reading :
-        (order : Order) → orderOf line ≡ right order → (taken : Taken) → Taking between (order .ready) (order .due) taken
+        (order : Order) → OrderReads line order → (taken : Taken) → Taking between (order .ready) (order .due) taken
         → getD answers (length front) No ≡ taken .answer
     answer-reading order reads taken takes =
         let come = answered-exactly book front early between .0 before .1 in
         let same = answered-exactly book (front ++ line ∷ rest) answers last .0 all .0 in
         rw (same, answering.taken-exactly between (order .ready) (order .due) taken .0 takes, come)
-        (answering.answer-reading book front line rest order reads)
+        (answering.answer-reading book front line rest order (order-reads line order .1 reads))
 
     -- where it does not it is refused by its fault
     pub answer-at-fault : (number : ℕ) → OrderFault line number → getD answers (length front) No ≡ Refused number
@@ -243,14 +236,14 @@ module _ (κs : Lfts 0) (exit : Book × (ℕ × (ℕ × Unit {0}))) where
         )
 
     -- and those are the lines of what is left from its place on
-    pub next-leaves : AreLines further × (joined further ≡ drop (step .progress .at) (now text))
+    pub next-leaves : HasLines (drop (step .progress .at) (now text)) further
     next-leaves = steps.step-leaves κ text progress step after learnt line further cut
 
   -- The answers of a list that begins.
   module _
       (first : List ℕ)
       (heading : Heading)
-      (reads : headingOf first ≡ right heading)
+      (reads : HeadingReads first heading)
       (lines : List (List ℕ))
       (answers : List Answer)
       (last : Book)
@@ -264,16 +257,16 @@ module _ (κs : Lfts 0) (exit : Book × (ℕ × (ℕ × Unit {0}))) where
 
     -- kept is the number of yeses, taken that of the answers that are not refusals, and
     -- the clock the ready hour of the last line not refused
-    pub fresh-counted : Counts ReadsAs 0 lines answers (last .kept) (last .taken) (last .clock)
+    pub fresh-counted : Counts 0 lines answers (last .kept) (last .taken) (last .clock)
     fresh-counted =
         counted-exactly (newBook (heading .chambers) (heading .run)) lines answers last answered (last .kept) (last .taken) (last .clock) .1
         (omega arith, omega arith, refl)
 
 -- the yeses among answers and the refusals are counted so
 pub yeses-and-refusals :
-    (Reads : List ℕ → Order → Type 0) (before after kept taken : ℕ) (lines : List (List ℕ)) (answers : List Answer)
-    → Counts Reads before lines answers kept taken after → (yeses answers ≡ kept) × (refusals answers + taken ≡ length answers)
-yeses-and-refusals Reads before after kept taken lines answers = tallies.counts-are
+    (before after kept taken : ℕ) (lines : List (List ℕ)) (answers : List Answer) → Counts before lines answers kept taken after
+    → (yeses answers ≡ kept) × (refusals answers + taken ≡ length answers)
+yeses-and-refusals before after kept taken lines answers = tallies.counts-are
 
 -- The yeses of answers as a plan, from a line number on: a yes has its plan line, a no and a refusal have none.
 module _ (line : ℕ) where
@@ -303,9 +296,9 @@ clean-exactly = clean.clean-exactly
 
 -- 1b: behind the first line and clean order lines, an order line is refused exactly by its first fault: its own, 6, or 5
 pub refused-by-its-fault :
-    (line : List ℕ) (heading : Heading) → headingOf line ≡ right heading → (lines : List (List ℕ)) (orders : List Order) → CleanOrders lines orders
+    (line : List ℕ) (heading : Heading) → HeadingReads line heading → (lines : List (List ℕ)) (orders : List Order) → CleanOrders lines orders
     → (next : List ℕ) (number : ℕ) → (decision (bookAfter (bookFor heading) lines) (orderOf next) ≡ wrong number) ↔ OrderWrong orders next number
-refused-by-its-fault = clean.behind-clean
+refused-by-its-fault line heading reads = clean.behind-clean line heading (heading-reads line heading .1 reads)
 
 -- while a line is left the place moves on, so that going through ends
 pub moves-on : (text : List ℕ) (progress : Progress) → progress .at < length text → progress .at < progressPast text progress .at

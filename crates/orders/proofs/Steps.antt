@@ -8,14 +8,13 @@ use contract.Lifetimes.{Lfts}
 use denote.Ref.{RefT, now}
 use Rattle.ground.specs.Refusal.{Read, wrong, right}
 use Rattle.texts.specs.Lines.{linesOf, lineAt, pastLine}
-use Rattle.texts.specs.Meaning.{joined, AreLines}
 use Rattle.texts.proofs.Lines.{past-is}
-use Rattle.texts.proofs.Promises.{lines-joined, lines-are, walk-done}
+use Rattle.texts.proofs.Promises.{walk-done}
 use Rattle.fields.specs.Fields.{isEnded, shapeOf}
 use Rattle.lines.specs.Reading.{lineOf, orderOf}
-use Rattle.lines.specs.Meaning.{OrderFault}
+use Rattle.lines.specs.Meaning.{OrderReads, OrderFault}
 use Rattle.lines.specs.declared.Order.{Order}
-use Rattle.lines.proofs.Promises.{order-fault}
+use Rattle.lines.proofs.Promises.{order-reads, order-fault}
 use Rattle.book.specs.Taking.{told, answerOf}
 use Rattle.book.specs.declared.Book.{Book}
 use Rattle.book.specs.declared.Taken.{Taken}
@@ -23,11 +22,12 @@ use Rattle.book.specs.declared.Answer.{Answer}
 use Rattle.book.specs.declared.Answer.the-variants.{Refused}
 use Rattle.book.proofs.Promises.{answer-told}
 use Rattle.book.proofs.Book.take.Reads as take
-use Rattle.orders.specs.Answers.{answersFrom, bookAfter, decision, bookPast, lineAfter, orderIn}
-use Rattle.orders.specs.History.{FirstOf}
+use Rattle.orders.specs.Answers.{answersFrom, bookAfter, decision, bookPast, orderIn}
+use Rattle.orders.specs.Meaning.{HasLines, FirstOf}
+use Rattle.orders.specs.Steps.{lineAfter}
 use Rattle.orders.specs.declared.Progress.{Progress}
 use Rattle.orders.specs.declared.Step.{Step}
-use Rattle.orders.proofs.FirstLines.{first-only}
+use Rattle.orders.proofs.FirstLines.{lines-exactly, first-only}
 use Rattle.orders.proofs.next.Reads as next
 
 -- the empty line is refused by 1
@@ -61,7 +61,7 @@ module _ (κs : Lfts 1) (text : RefT (List ℕ)) (progress : Progress) (step : S
 
     -- a line that reads as an order
     pub step-reading :
-        (order : Order) → orderOf line ≡ right order → (κ : Lfts 0) (taken : Taken) (exit : _)
+        (order : Order) → OrderReads line order → (κ : Lfts 0) (taken : Taken) (exit : _)
         → take.Learnt κ (progress .book, (order .ready, (order .due, tt))) taken exit
         → step
         ≡ record {
@@ -70,7 +70,7 @@ module _ (κs : Lfts 1) (text : RefT (List ℕ)) (progress : Progress) (step : S
           progress = record { at = progress .at + length line; line = min (progress .line + 1) 4_294_967_295; book = taken .book };
         }
     step-reading order reads κ taken exit takes =
-        step-from (right order) (progress .at + length line) (taken .answer) (taken .book) (rw here at reads) past-here
+        step-from (right order) (progress .at + length line) (taken .answer) (taken .book) (rw here at (order-reads line order .1 reads)) past-here
         (sym (answer-told (taken .answer) _ (takes .said))) (sym (takes .next))
 
     -- one that does not
@@ -98,11 +98,11 @@ module _ (κs : Lfts 1) (text : RefT (List ℕ)) (progress : Progress) (step : S
         rw (answer, book) (refl, refl)
 
     -- and the others are left past it
-    pub step-leaves : AreLines further × (joined further ≡ drop (step .progress .at) (now text))
+    pub step-leaves : HasLines (drop (step .progress .at) (now text)) further
     step-leaves =
         let left : further ≡ linesOf (drop (pastLine (now text) (progress .at)) (now text)) = first-only (now text) (progress .at) cut .1 in
         let place : step .progress .at ≡ pastLine (now text) (progress .at) = ap (λ reached. reached .at) (learnt .next) in
-        rw (left, place) (lines-are _, lines-joined _)
+        lines-exactly .1 (rw place left)
 
   -- at or past the end
   pub step-at-end :

@@ -90,14 +90,6 @@ unfoldable pub yesPlan : ℕ → List Answer → List ℕ
 yesPlan line [] = []
 yesPlan line (answer ∷ answers) = planLineFor line answer ++ yesPlan (suc line) answers
 
--- the last number that a line can be counted by
-abbrev pub lastLine : ℕ
-lastLine = 4_294_967_295
-
--- the number of the next line
-abbrev pub lineAfter : ℕ → ℕ
-lineAfter line = min (suc line) lastLine
-
 -- the number of the line that is refused before any order: "A bad first line prints `1→bad→N`", "a text too long prints `0→bad→9`"
 abbrev pub refusedLine : ℕ → ℕ
 refusedLine number = cond (eqb number 9) 0 1
@@ -114,13 +106,11 @@ abbrev pub begunBy : List ℕ → Read Book → Begun
 begunBy text (wrong number) = notBegun (refusedLine number) number
 begunBy text (right book) = begunWith text book
 
--- the progress past a line, with this book
-abbrev pub progressTo : List ℕ → Progress → Book → Progress
-progressTo text progress book = record { at = pastLine text (progress .at); line = lineAfter (progress .line); book = book }
-
--- the progress past the line at its place
+-- the progress past the line at its place; a line's number stops at the last of 32 bits
 abbrev pub progressPast : List ℕ → Progress → Progress
-progressPast text progress = progressTo text progress (bookPast (progress .book) (orderOf (lineAt text (progress .at))))
+progressPast text progress =
+    let book = bookPast (progress .book) (orderOf (lineAt text (progress .at))) in
+    record { at = pastLine text (progress .at); line = min (suc (progress .line)) 4_294_967_295; book = book }
 
 -- the order that a line reads as; zeros where it does not read
 abbrev pub orderIn : Read Order → Order

@@ -6,7 +6,8 @@ ghost use Rattle.texts.specs.Lines.{lineAt};
 ghost use Rattle.lines.specs.Reading.{headingOf};
 ghost use Rattle.book.specs.Taking.{told, answerOf};
 ghost use Rattle.book.specs.declared.Answer.the-variants as Answer;
-ghost use Rattle.orders.specs.Answers.{bookFor, opening, decision, bookPast, lineAfter, notBegun, begunWith, begunBy, orderIn, Stepped};
+ghost use Rattle.orders.specs.Answers.{bookFor, opening, decision, bookPast, notBegun, begunWith, begunBy, orderIn, Stepped};
+ghost use Rattle.orders.specs.Steps.{lineAfter};
 use book::Answer;
 use book::Book;
 use ground::LONGEST_TEXT;
@@ -122,7 +123,8 @@ fn booked(end: usize, progress: Progress, order: Order) -> Step
 
 // A refused line: it is counted, and the book is as it was.
 fn passed(end: usize, progress: Progress, number: u32) -> Step
-    ensures { λ r. ⌜ (r .order ≡ orderIn (wrong number)) × (told (r .answer) ≡ told (Answer.Refused number)) × (r .progress ≡ record { at = end; line = lineAfter (progress .line); book = progress .book }) ⌝ }
+    ensures { λ r. ⌜ (r .order ≡ orderIn (wrong number)) × (told (r .answer) ≡ told (Answer.Refused number))
+        × (r .progress ≡ record { at = end; line = lineAfter (progress .line); book = progress .book }) ⌝ }
 {
     let book = progress.book;
     let answer = Answer::Refused(number);

@@ -50,9 +50,9 @@ module _ (list plan : List ℕ) where
       ⊎ ((length list ≤ longestText) × (longestText < length plan) × (fault ≡ faultOf 9 true 0 0 0))
   nine-long (list-long over) nine = inl (over, refl)
   nine-long (plan-long fits over) nine = inr (fits, over, refl)
-  nine-long (in-heading list-fits plan-fits wrongly) nine = absurd (omega (arith, nine, line-fault-from wrongly .1))
-  nine-long (in-list heading front line rest orders list-fits plan-fits headed among clean wrongly) nine = absurd (order-never-nine orders line wrongly nine)
-  nine-long (in-plan heading orders front line rest loads clean fits among good wrongly) nine = absurd (load-never-nine heading orders loads line wrongly nine)
+  nine-long (in-heading first further list-fits plan-fits parts wrongly) nine = absurd (omega (arith, nine, line-fault-from wrongly .1))
+  nine-long (in-list heading first front rest line orders list-fits plan-fits parts headed clean wrongly) nine = absurd (order-never-nine orders line wrongly nine)
+  nine-long (in-plan heading orders front rest line loads clean fits cut good wrongly) nine = absurd (load-never-nine heading orders loads line wrongly nine)
 
   -- 9 in the list exactly when it is longer than 65,536 bytes, at line 0 with the empty front
   pub list-too-long : (judged list plan ≡ wrong (faultOf 9 false 0 0 0)) ↔ (longestText < length list)

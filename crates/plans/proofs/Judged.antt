@@ -4,45 +4,40 @@ use mathlib.Core.Path.{_≡_, refl, sym, ap, subst, _∙_}
 use mathlib.Core.Bool.{true, false}
 use mathlib.Core.Logic.{_↔_, ⊎-elim}
 use mathlib.Core.List.{List, [], _∷_, _++_, append-assoc}
-use lib.ListN.{length, length-append, length-map}
-use lib.Seq.{take-append-seam, drop-append-seam, length-take-le}
-use lib.Dec.{leb, ltb}
+use lib.ListN.{length, length-append}
+use lib.Seq.{take-append-seam, drop-append-seam}
+use lib.Dec.{leb}
 use native.Mathlib.Omega.{arith}
-use borrow.Author.Tests.{leb-true, leb-false, le-leb, lt-leb, ltb-true, ltb-false}
-use Rattle.ground.specs.Refusal.{Or, Read, wrong, right, _>>=_}
+use borrow.Author.Tests.{leb-true, leb-false, le-leb, lt-leb}
+use Rattle.ground.specs.Refusal.{Or, wrong, right, _>>=_}
 use Rattle.ground.specs.Limits.{longestText}
 use Rattle.ground.proofs.Refusal.{never-right, same-right, same-wrong}
 use Rattle.ground.proofs.Tests.{by-test}
-use Rattle.texts.specs.Lines.{linesOf, lineLength, lineAt, pastLine, partOf}
-use Rattle.lines.specs.Reading.{headingOf, loadOf}
+use Rattle.texts.specs.Lines.{linesOf, lineAt, pastLine, partOf}
+use Rattle.lines.specs.Reading.{headingOf}
 use Rattle.texts.specs.Meaning.{joined}
 use Rattle.lines.specs.declared.Heading.{Heading}
 use Rattle.lines.specs.declared.Order.{Order}
 use Rattle.lines.specs.declared.Load.{Load}
-use Rattle.texts.proofs.Lines.{line-within}
-use Rattle.texts.proofs.Promises.{lines-joined, walk-on, walk-done}
-use Rattle.lines.proofs.Promises.{heading-fault}
+use Rattle.texts.proofs.Lines.{past-is}
+use Rattle.texts.proofs.Promises.{walk-done}
+use Rattle.lines.proofs.Promises.{heading-reads, heading-fault}
 use Rattle.lines.specs.Meaning.{HeadingFault}
 use Rattle.orders.specs.Answers.{bookFor, opening, orderLines}
-use Rattle.orders.specs.Meaning.{CleanList}
+use Rattle.orders.specs.Meaning.{FirstOf, of-none, of-lines, none-left, CleanList}
 use Rattle.orders.proofs.Each.{each-none, two-none}
 use Rattle.orders.proofs.Beginning.{heading-right, heading-wrong}
-use Rattle.orders.proofs.Clean.{begun-headed}
+use Rattle.orders.proofs.Clean.{begun-headed, clean-list}
+use Rattle.orders.proofs.Readings.{as-many-read}
+use Rattle.orders.proofs.FirstLines.{lines-exactly, first-exactly}
 use Rattle.orders.proofs.Beginning.{refused-by-nine, refused-by-its-first-line}
 use Rattle.orders.proofs.Promises.{refused-empty}
 use Rattle.plans.specs.Judging.{faultAt, listJudged, planJudged, loadsCounted, bothJudged, judged, shown}
-use Rattle.plans.specs.Meaning.{faultOf, GoodLoads, Obeys, FirstFault, list-long, plan-long, in-heading, in-list, in-plan}
+use Rattle.plans.specs.Meaning.{faultOf, faultBehind, GoodLoads, Obeys, FirstFault, list-long, plan-long, in-heading, in-list, in-plan}
 use Rattle.plans.specs.declared.Fault.{Fault}
 use Rattle.plans.proofs.Through.{both-right, one-wrong, past-line, at-or-past-line}
 use Rattle.plans.proofs.Obeying.{plan-right, PlanFault, plan-wrong}
 use Rattle.plans.proofs.Listing.{list-right, list-clean, ListFault, list-wrong}
-
--- as many lines as loads
-pub as-many :
-    (heading : Heading) (orders : List Order) (lines : List (List ℕ)) (loads : List Load) → GoodLoads heading orders lines loads
-    → length lines ≡ length loads
-as-many heading orders lines loads good =
-    sym (length-map lines (loadOf (heading .chambers))) ∙ ap length (good .read) ∙ length-map {B = Read Load} loads right
 
 module _ (list plan : List ℕ) where
   -- what is left to look for once neither text is too long
@@ -75,10 +70,10 @@ module _ (list plan : List ℕ) where
       λ e.
           let p = both-right (planJudged plan (bookFor heading) orders) (λ loads. right (length loads)) count e in
           let good = plan-right heading orders plan (p .0) .0 (p .1) in
-          (p .0, good, sym (same-right (p .2)) ∙ sym (as-many heading orders (linesOf plan) (p .0) good)),
+          (p .0, good, sym (same-right (p .2)) ∙ sym (as-many-read (good .read))),
       λ p.
           rw (plan-right heading orders plan (p .0) .1 (p .1))
-          (ap right (sym (as-many heading orders (linesOf plan) (p .0) (p .1)) ∙ sym (p .2))),
+          (ap right (sym (as-many-read (p .1 .read)) ∙ sym (p .2))),
     )
 
     -- a fault of the plan is the answer
@@ -103,9 +98,11 @@ module _ (list plan : List ℕ) where
         record {
           heading = heading;
           orders = p .0 .orders;
+          lines = linesOf plan;
           loads = r .0;
-          clean = record { fits = list-fits; headed = headed; ordered = list-right list heading headed (p .0) (p .1) };
+          clean = clean-list list heading (p .0 .orders) .1 (list-fits, headed, list-right list heading headed (p .0) (p .1));
           fits = plan-fits;
+          cut = lines-exactly .1 refl;
           good = r .1;
         },
         r .2,
@@ -131,11 +128,12 @@ module _ (list plan : List ℕ) where
   right-to : Obeys list plan → judged list plan ≡ right (length (linesOf plan))
   unfolding bothJudged
   right-to obeys =
-      let clean = obeys .clean in
-      let known = list-clean list (obeys .heading) (clean .headed) (obeys .orders) (clean .ordered) in
-      fit-then (clean .fits) (obeys .fits)
-      ∙ rw (heading-right list (clean .fits) (obeys .heading) (clean .headed), known .1, known .2)
-      (counted-right (obeys .heading) (obeys .orders) (length (linesOf plan)) .1 (obeys .loads, obeys .good, refl))
+      let clean = clean-list list (obeys .heading) (obeys .orders) .0 (obeys .clean) in
+      let known = list-clean list (obeys .heading) (clean .1) (obeys .orders) (clean .2) in
+      fit-then (clean .0) (obeys .fits)
+      ∙ rw (heading-right list (clean .0) (obeys .heading) (clean .1), known .1, known .2)
+      (counted-right (obeys .heading) (obeys .orders) (length (linesOf plan)) .1
+      (obeys .loads, rw (lines-exactly .0 (obeys .cut)) at (obeys .good), refl))
 
   -- "With no fault the answer is right with the number of plan lines": exactly when the plan obeys the list, and by that number
   pub right-exactly : (count : ℕ) → (judged list plan ≡ right count) ↔ (Obeys list plan × (count ≡ length (linesOf plan)))
@@ -149,10 +147,12 @@ empty-plan list heading orders clean =
       record {
         heading = heading;
         orders = orders;
+        lines = [];
         loads = [];
         clean = clean;
         fits = omega arith;
-        good = record { read = refl; in-time = each-none; apart = two-none };
+        cut = lines-exactly .1 refl;
+        good = record { read = none-left; in-time = each-none; apart = two-none };
       },
       refl,
     )
@@ -166,18 +166,31 @@ first-fault list fits number refused =
 -- The first line of a list, and the others.
 -- it is as long as the place past it
 first-length : (list : List ℕ) → pastLine list 0 ≡ length (lineAt list 0)
-unfolding pastLine lineAt
-first-length list = let size = length-take-le (lineLength list) list (line-within list) in omega (arith, size)
+first-length list = omega (arith, past-is list 0)
 
 -- they are the whole list
-list-joined : (list : List ℕ) → list ≡ lineAt list 0 ++ joined (orderLines list)
-unfolding orderLines joined
-list-joined list =
-    by-test (ltb 0 (length list))
-    (λ some. sym (lines-joined list) ∙ rw (walk-on list 0 (ltb-true 0 (length list) some)))
-    (λ none.
-    let done = walk-done list 0 (ltb-false 0 (length list) none) in
-    sym (lines-joined list) ∙ rw (done .0, done .1))
+first-joined : {list first : List ℕ} {further : List (List ℕ)} → FirstOf list first further → list ≡ joined (first ∷ further)
+unfolding joined
+first-joined of-none = refl
+first-joined (of-lines has) = sym (has .1)
+
+-- a fault of the first line, by the place past it
+first-told : (list : List ℕ) (number : ℕ) → faultOf number false 1 0 (pastLine list 0) ≡ faultBehind number false [] (lineAt list 0)
+unfolding joined
+first-told list number =
+    let to : pastLine list 0 ≡ 0 + length (lineAt list 0) = omega (arith, first-length list) in ap (faultOf number false 1 0) to
+
+-- and of a line behind it
+later-told :
+    (list : List ℕ) (number : ℕ) (front : List (List ℕ)) (line : List ℕ)
+    → faultOf number false (2 + length front) (pastLine list 0 + length (joined front)) (pastLine list 0 + length (joined front) + length line)
+    ≡ faultBehind number false (lineAt list 0 ∷ front) line
+unfolding joined
+later-told list number front line =
+    let from : pastLine list 0 + length (joined front) ≡ length (lineAt list 0 ++ joined front) =
+    simp length-append (omega (arith, first-length list)) in
+    let count : 2 + length front ≡ 1 + length (lineAt list 0 ∷ front) = omega arith in
+    λ i. faultOf number false (count i) (from i) (from i + length line)
 
 -- lines one behind the other, cut at one of them
 pub joined-cut : (front : List (List ℕ)) (line : List ℕ) (rest : List (List ℕ)) → joined (front ++ line ∷ rest) ≡ joined front ++ (line ++ joined rest)
@@ -196,25 +209,22 @@ part-is text front line rest from to whole here there =
     let span : to - from ≡ length line = omega arith in
     rw (le-leb from to (omega arith), le-leb to (length text) (omega arith), span, here, whole, drop-append-seam front (line ++ rest), take-append-seam line rest)
 
+-- so the part where a line stands behind others
+part-behind :
+    {text : List ℕ} (front : List (List ℕ)) (line : List ℕ) (rest : List (List ℕ)) → text ≡ joined (front ++ line ∷ rest)
+    → partOf text (length (joined front)) (length (joined front) + length line) ≡ line
+part-behind {text} front line rest whole =
+    part-is text (joined front) line (joined rest) (length (joined front)) (length (joined front) + length line) (whole ∙ joined-cut front line rest) refl refl
+
 -- the line of a first fault is the line shown
 pub first-shown : (list plan : List ℕ) {fault : Fault} {line : List ℕ} → FirstFault list plan fault line → shown fault list plan ≡ line
 unfolding shown
 first-shown list plan (list-long over) = part-is list [] [] list 0 0 refl refl (omega arith)
 first-shown list plan (plan-long fits over) = part-is plan [] [] plan 0 0 refl refl (omega arith)
-first-shown list plan (in-heading list-fits plan-fits wrongly) =
-    part-is list [] (lineAt list 0) (joined (orderLines list)) 0 (length (lineAt list 0)) (list-joined list) refl (omega arith)
-first-shown list plan (in-list heading front line rest orders list-fits plan-fits headed among clean wrongly) =
-    let whole : list ≡ (lineAt list 0 ++ joined front) ++ (line ++ joined rest) =
-    list-joined list
-    ∙ ap (λ lines. lineAt list 0 ++ joined lines) among
-    ∙ ap (λ others. lineAt list 0 ++ others) (joined-cut front line rest)
-    ∙ sym (append-assoc (lineAt list 0) (joined front) (line ++ joined rest)) in
-    let before = length-append (lineAt list 0) (joined front) in
-    part-is list (lineAt list 0 ++ joined front) line (joined rest) (length (lineAt list 0) + length (joined front))
-    (length (lineAt list 0) + length (joined front) + length line) whole (sym before) (omega (arith, before))
-first-shown list plan (in-plan heading orders front line rest loads clean fits among good wrongly) =
-    part-is plan (joined front) line (joined rest) (length (joined front)) (length (joined front) + length line)
-    (sym (lines-joined plan) ∙ ap joined among ∙ joined-cut front line rest) refl refl
+first-shown list plan (in-heading first further list-fits plan-fits parts wrongly) = part-behind [] first further (first-joined parts)
+first-shown list plan (in-list heading first front rest line orders list-fits plan-fits parts headed clean wrongly) =
+    part-behind (first ∷ front) line rest (first-joined parts)
+first-shown list plan (in-plan heading orders front rest line loads clean fits cut good wrongly) = part-behind front line rest (sym (cut .1))
 
 module _ (list plan : List ℕ) where
   -- the first order line at fault is the first fault, where nothing before it is one
@@ -222,9 +232,11 @@ module _ (list plan : List ℕ) where
       (fault : Fault) (heading : Heading) (headed : headingOf (lineAt list 0) ≡ right heading) → length list ≤ longestText → length plan ≤ longestText
       → (wrongly : ListFault list heading headed fault) → FirstFault list plan fault (wrongly .line)
   first-in-list fault heading headed list-fits plan-fits wrongly =
-      subst (λ given. FirstFault list plan given (wrongly .line)) (sym (rw (first-length list) at (wrongly .told)))
-      (in-list heading (wrongly .front) (wrongly .line) (wrongly .rest) (wrongly .orders) list-fits plan-fits headed (wrongly .among) (wrongly .clean)
-      (wrongly .at-fault))
+      subst (λ given. FirstFault list plan given (wrongly .line))
+      (sym (wrongly .told ∙ later-told list (wrongly .number) (wrongly .front) (wrongly .line)))
+      (in-list heading (lineAt list 0) (wrongly .front) (wrongly .rest) (wrongly .line) (wrongly .orders) list-fits plan-fits
+      (first-exactly list (lineAt list 0) (wrongly .front ++ wrongly .line ∷ wrongly .rest) .1 (refl, sym (wrongly .among)))
+      (heading-reads (lineAt list 0) heading .0 headed) (wrongly .clean) (wrongly .at-fault))
 
   -- so is the first plan line at fault, where the list is clean
   first-in-plan :
@@ -232,8 +244,8 @@ module _ (list plan : List ℕ) where
       → (wrongly : PlanFault heading orders plan fault) → FirstFault list plan fault (wrongly .line)
   first-in-plan fault heading orders clean plan-fits wrongly =
       subst (λ given. FirstFault list plan given (wrongly .line)) (sym (wrongly .told))
-      (in-plan heading orders (wrongly .front) (wrongly .line) (wrongly .rest) (wrongly .loads) clean plan-fits (wrongly .among) (wrongly .good)
-      (wrongly .at-fault))
+      (in-plan heading orders (wrongly .front) (wrongly .rest) (wrongly .line) (wrongly .loads) clean plan-fits
+      (lines-exactly .1 (sym (wrongly .among))) (wrongly .good) (wrongly .at-fault))
 
   -- a list with a first line that reads is at fault, or else the plan
   both-wrong-from :
@@ -247,8 +259,7 @@ module _ (list plan : List ℕ) where
       (wrongly .line, first-in-list fault heading headed list-fits plan-fits wrongly))
       (λ p.
       let orders = p .0 .orders in
-      let clean : CleanList list heading orders =
-      record { fits = list-fits; headed = headed; ordered = list-right list heading headed (p .0) (p .1) } in
+      let clean = clean-list list heading orders .1 (list-fits, headed, list-right list heading headed (p .0) (p .1)) in
       let wrongly = plan-wrong heading orders plan fault .0 (counted-wrong list plan heading orders fault .0 (p .2)) in
       (wrongly .line, first-in-plan fault heading orders clean plan-fits wrongly))
       (one-wrong (listJudged list (bookFor heading)) (λ known. loadsCounted plan (bookFor heading) (known .orders)) fault e)
@@ -265,7 +276,9 @@ module _ (list plan : List ℕ) where
       ⊎-elim
       (λ p. (
         lineAt list 0,
-        rw (p .2, first-length list) (in-heading list-fits plan-fits (first-fault list list-fits (p .0) (p .1))),
+        rw (p .2, first-told list (p .0))
+            (in-heading (lineAt list 0) (orderLines list) list-fits plan-fits (first-exactly list (lineAt list 0) (orderLines list) .1 (refl, refl))
+            (first-fault list list-fits (p .0) (p .1))),
       ))
       (λ p.
       let begun = begun-headed list (p .0) (p .1) in both-wrong-from fault list-fits plan-fits (begun .0) (begun .1) (rw (begun .2) at (p .2)))
@@ -283,40 +296,43 @@ module _ (list plan : List ℕ) where
   unfolding bothJudged
   wrong-to (list-long over) = list-over list plan over
   wrong-to (plan-long fits over) = plan-over list plan fits over
-  wrong-to (in-heading {number = number} list-fits plan-fits wrongly) =
+  wrong-to (in-heading {number = number} first further list-fits plan-fits parts wrongly) =
+      let same = first-exactly list first further .0 parts .0 in
       fit-then list plan list-fits plan-fits
-      ∙ rw (heading-wrong list list-fits number (heading-fault (lineAt list 0) number .1 wrongly), first-length list)
-  wrong-to (in-list {number = number} heading front line rest orders list-fits plan-fits headed among clean wrongly) =
+      ∙ rw (same, heading-wrong list list-fits number (heading-fault (lineAt list 0) number .1 (rw same at wrongly)))
+      (ap wrong (first-told list number))
+  wrong-to (in-list {number = number} heading first front rest line orders list-fits plan-fits parts reads clean wrongly) =
+      let same = first-exactly list first (front ++ line ∷ rest) .0 parts in
+      let headed : headingOf (lineAt list 0) ≡ right heading = rw (same .0) at (heading-reads first heading .1 reads) in
       fit-then list plan list-fits plan-fits
       ∙ rw (
         heading-right list list-fits heading headed,
-        list-wrong list heading headed
-            (faultOf number false (2 + length front) (length (lineAt list 0) + length (joined front))
-            (length (lineAt list 0) + length (joined front) + length line)) .1
+        list-wrong list heading headed (faultBehind number false (first ∷ front) line) .1
             (record {
               front = front;
               line = line;
               rest = rest;
-              among = among;
+              among = sym (same .1);
               orders = orders;
               clean = clean;
               number = number;
               at-fault = wrongly;
-              told = rw (first-length list);
+              told = rw (same .0) (sym (later-told list number front line));
             }),
       )
-  wrong-to (in-plan {number = number} heading orders front line rest loads clean fits among good wrongly) =
-      let known = list-clean list heading (clean .headed) orders (clean .ordered) in
-      let fault = faultOf number true (1 + length front) (length (joined front)) (length (joined front) + length line) in
-      fit-then list plan (clean .fits) fits
-      ∙ rw (heading-right list (clean .fits) heading (clean .headed), known .1, known .2)
+  wrong-to (in-plan {number = number} heading orders front rest line loads clean fits cut good wrongly) =
+      let its = clean-list list heading orders .0 clean in
+      let known = list-clean list heading (its .1) orders (its .2) in
+      let fault = faultBehind number true front line in
+      fit-then list plan (its .0) fits
+      ∙ rw (heading-right list (its .0) heading (its .1), known .1, known .2)
       (counted-wrong list plan heading orders fault .1
       (plan-wrong heading orders plan fault .1
       (record {
         front = front;
         line = line;
         rest = rest;
-        among = among;
+        among = sym (lines-exactly .0 cut);
         loads = loads;
         good = good;
         number = number;

@@ -4,7 +4,7 @@ use Prim.Native.Nat.{ℕ, _+_}
 use mathlib.Core.Path.{_≡_, refl, sym, ap, _∙_}
 use mathlib.Core.Bool.{false}
 use mathlib.Core.Logic.{_↔_}
-use mathlib.Core.List.{List, [], _∷_, _++_, map, append-nil, append-assoc, nil≢cons, cons≢nil, head-eq-of-cons-eq, tail-eq-of-cons-eq}
+use mathlib.Core.List.{List, [], _∷_, _++_, map, append-nil, append-assoc}
 use lib.ListN.{length}
 use native.Mathlib.Omega.{arith}
 use Rattle.ground.specs.Refusal.{Read, wrong, right, _>>_}
@@ -12,12 +12,14 @@ use Rattle.ground.proofs.Refusal.{never-right, same-right, same-wrong}
 use Rattle.texts.specs.Lines.{lineAt, pastLine}
 use Rattle.texts.specs.Meaning.{joined}
 use Rattle.lines.specs.Reading.{headingOf, orderOf}
+use Rattle.lines.specs.Meaning.{OrderReads}
 use Rattle.lines.specs.declared.Heading.{Heading}
 use Rattle.lines.specs.declared.Order.{Order}
+use Rattle.lines.proofs.Promises.{order-reads}
 use Rattle.choice.specs.declared.Choice.{Choice}
 use Rattle.book.specs.Taking.{answerOf}
 use Rattle.orders.specs.Answers.{bookFor, orderLines, answersFrom, bookAfter, decision, bookPast, refusalsIn, refusals, orderIn}
-use Rattle.orders.specs.Meaning.{CleanOrders, OrderWrong}
+use Rattle.orders.specs.Meaning.{EachReads, none-left, one-more, CleanOrders, OrderWrong}
 use Rattle.orders.proofs.Clean.{unrefused, decided-unrefused, unrefused-clean, clean-unrefused, behind-clean}
 use Rattle.plans.specs.Judging.{ListKnown, noteOrder, listJudged}
 use Rattle.plans.specs.Meaning.{faultOf}
@@ -94,13 +96,11 @@ unrefused-reached known (line ∷ lines) none =
     (knownWith known line, line-noted known line (p .0) (p .1), rw (← known-more known line lines) (unrefused-reached (knownWith known line) lines others))
 
 -- the orders of lines that all read
-orders-read : (lines : List (List ℕ)) (orders : List Order) → map orderOf lines ≡ map right orders → map (λ line. orderIn (orderOf line)) lines ≡ orders
-orders-read [] [] read = refl
-orders-read [] (order ∷ orders) read = absurd (nil≢cons read)
-orders-read (line ∷ lines) [] read = absurd (cons≢nil read)
-orders-read (line ∷ lines) (order ∷ orders) read =
-    let here : orderOf line ≡ right order = head-eq-of-cons-eq read in
-    let later = orders-read lines orders (tail-eq-of-cons-eq read) in rw (here, later)
+orders-read : {lines : List (List ℕ)} {orders : List Order} → EachReads OrderReads lines orders → map (λ line. orderIn (orderOf line)) lines ≡ orders
+orders-read none-left = refl
+orders-read (one-more {line = line} {one = order} read others) =
+    let here : orderOf line ≡ right order = order-reads line order .1 read in
+    let later = orders-read others in rw (here, later)
 
 module _ (list : List ℕ) (heading : Heading) (headed : headingOf (lineAt list 0) ≡ right heading) where
   -- nothing is known at the top but the book
@@ -114,7 +114,7 @@ module _ (list : List ℕ) (heading : Heading) (headed : headingOf (lineAt list 
   noted-clean lines last reached =
       let p = reached-unrefused top lines last reached in
       let q = unrefused-clean (lineAt list 0) heading headed lines (p .0) in
-      (q .0, q .1, ap (λ (known : ListKnown). known .book) (p .1), ap (λ (known : ListKnown). known .orders) (p .1) ∙ orders-read lines (q .0) (q .1 .read))
+      (q .0, q .1, ap (λ (known : ListKnown). known .book) (p .1), ap (λ (known : ListKnown). known .orders) (p .1) ∙ orders-read (q .1 .read))
 
   -- and clean lines are all noted
   clean-noted :
@@ -122,7 +122,7 @@ module _ (list : List ℕ) (heading : Heading) (headed : headingOf (lineAt list 
       → (last : ListKnown) × Reaches noteOrder top lines last × (last .book ≡ bookAfter (bookFor heading) lines) × (last .orders ≡ orders)
   clean-noted lines orders clean =
       let none = clean-unrefused (lineAt list 0) heading headed lines orders clean .0 in
-      (knownAfter top lines, unrefused-reached top lines none, refl, orders-read lines orders (clean .read))
+      (knownAfter top lines, unrefused-reached top lines none, refl, orders-read (clean .read))
 
   -- a list that comes to what is known of it is clean
   pub list-right :

@@ -16,11 +16,12 @@ use Rattle.ground.proofs.Refusal.{never-right, same-right, same-wrong}
 use Rattle.ground.proofs.Range.{within-from, within-low, within-high}
 use Rattle.ground.proofs.Tests.{never-both, not-met}
 use Rattle.lines.specs.Reading.{loadOf}
+use Rattle.lines.specs.Meaning.{LoadReads}
 use Rattle.ground.specs.Limits.{firstOrderLine}
 use Rattle.lines.specs.declared.Heading.{Heading}
 use Rattle.lines.specs.declared.Order.{Order}
 use Rattle.lines.specs.declared.Load.{Load}
-use Rattle.lines.proofs.Promises.{load-fault}
+use Rattle.lines.proofs.Promises.{load-reads, load-fault}
 use Rattle.plans.specs.Judging.{standsIn, overlapsAny, noteLoad}
 use Rattle.loads.specs.Checks.{placeNamed, orderNamed, loadAsked, overlap}
 use Rattle.orders.specs.Answers.{bookFor}
@@ -279,7 +280,7 @@ module _ (heading : Heading) (orders : List Order) (seen : List Load) where
 
   -- the first check that is not met is its fault
   unmet-fault :
-      (line : List ℕ) (load : Load) {number : ℕ} → loadOf (heading .chambers) line ≡ right load
+      (line : List ℕ) (load : Load) {number : ℕ} → LoadReads (heading .chambers) line load
       → Unmet (listed load) (new load) (ready load) (due load) (free load) number → LoadWrong heading orders seen line number
   unmet-fault line load read (of-listed a) = unlisted load read (λ order names. never-both (names-within orders load order names) a)
   unmet-fault line load read (of-new a b) =
@@ -302,10 +303,11 @@ module _ (heading : Heading) (orders : List Order) (seen : List Load) where
       }) (new-exactly load .0 b) (taken-exactly load .0 e)
 
   -- a load that reads is refused by the first check that is not met
-  refused-by : (line : List ℕ) (load : Load) {number : ℕ} → loadOf (heading .chambers) line ≡ right load
+  refused-by : (line : List ℕ) (load : Load) {number : ℕ} → LoadReads (heading .chambers) line load
       → Unmet (listed load) (new load) (ready load) (due load) (free load) number
       → noteLoad (bookFor heading) orders seen line ≡ wrong number
-  refused-by line load read unmet = in-order line ∙ rw read (unmet-checks (seen ++ load ∷ []) unmet)
+  refused-by line load read unmet =
+      let reads = load-reads (heading .chambers) line load .1 read in in-order line ∙ rw reads (unmet-checks (seen ++ load ∷ []) unmet)
 
   -- its first fault refuses it
   fault-then : (line : List ℕ) {number : ℕ} → LoadWrong heading orders seen line number → noteLoad (bookFor heading) orders seen line ≡ wrong number
@@ -336,7 +338,7 @@ module _ (heading : Heading) (orders : List Order) (seen : List Load) where
         ⊎-elim (λ read. misread (load-fault (heading .chambers) line number .0 read))
         (λ p.
         let load = p .0 in
-        unmet-fault line load (p .1)
+        unmet-fault line load (load-reads (heading .chambers) line load .0 (p .1))
         (checks-unmet (listed load) (new load) (ready load) (due load) (free load) (seen ++ load ∷ []) number (p .2)))
         (one-wrong (loadOf (heading .chambers) line) checked number (sym (in-order line) ∙ e)),
     fault-then line,

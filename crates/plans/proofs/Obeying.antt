@@ -17,9 +17,10 @@ use Rattle.lines.specs.declared.Load.{Load}
 use Rattle.plans.specs.Judging.{noteLoad, planJudged}
 use Rattle.orders.specs.Answers.{bookFor}
 use Rattle.orders.specs.Meaning.{Each, EachTwo}
-use Rattle.plans.specs.Meaning.{faultOf, InTime, holdOf, Apart, GoodLoads, LoadWrong}
+use Rattle.plans.specs.Meaning.{faultBehind, InTime, holdOf, Apart, GoodLoads, LoadWrong}
 use Rattle.plans.specs.declared.Fault.{Fault}
 use Rattle.orders.proofs.Each.{each-none, each-before, each-first, each-rest, each-behind, each-last, each-front, two-none, two-before, two-first, two-rest}
+use Rattle.orders.proofs.Readings.{loads-exactly}
 use Rattle.plans.proofs.Through.{Reaches, through-right, through-wrong}
 use Rattle.plans.proofs.Loads.{line-right, line-wrong}
 
@@ -108,9 +109,14 @@ module _ (heading : Heading) (orders : List Order) where
   -- behind none they are good by themselves
   good-exactly : (lines : List (List ℕ)) (loads : List Load) → GoodBehind [] lines loads ↔ GoodLoads heading orders lines loads
   good-exactly lines loads = (
-    λ good. record { read = good .read; in-time = good .in-time; apart = good .apart },
+    λ good. record { read = loads-exactly (heading .chambers) lines loads .0 (good .read); in-time = good .in-time; apart = good .apart },
     λ good.
-        record { read = good .read; in-time = good .in-time; behind = record { holds = λ front one rest e. each-none }; apart = good .apart },
+        record {
+          read = loads-exactly (heading .chambers) lines loads .1 (good .read);
+          in-time = good .in-time;
+          behind = record { holds = λ front one rest e. each-none };
+          apart = good .apart;
+        },
   )
 
   -- lines are all noted from the top exactly when they have no fault
@@ -139,7 +145,7 @@ module _ (heading : Heading) (orders : List Order) where
     pub good : GoodLoads heading orders front loads
     pub number : ℕ
     pub at-fault : LoadWrong heading orders loads line number
-    pub told : fault ≡ faultOf number true (1 + length front) (length (joined front)) (length (joined front) + length line)
+    pub told : fault ≡ faultBehind number true front line
 
   -- and to a fault exactly when that is the fault of its first line that has one
   pub plan-wrong : (plan : List ℕ) (fault : Fault) → (planJudged plan (bookFor heading) orders ≡ wrong fault) ↔ PlanFault plan fault

@@ -19,7 +19,8 @@ use Rattle.book.specs.declared.Book.{Book}
 use Rattle.choice.specs.declared.Choice.{Choice}
 use Rattle.choice.specs.declared.Choice.the-variants.{Nothing, Chamber}
 use Rattle.book.proofs.Refusals.{by-choice, never-by-none}
-use Rattle.orders.specs.Answers.{decision, lineAfter, Stepped}
+use Rattle.orders.specs.Answers.{decision, Stepped}
+use Rattle.orders.specs.Steps.{lineAfter}
 use Rattle.orders.specs.declared.Progress.{Progress}
 use Rattle.orders.specs.declared.Step.{Step}
 use Rattle.orders.proofs.Clean.{decision-right, next-counts}

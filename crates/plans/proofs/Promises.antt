@@ -10,7 +10,7 @@ use Rattle.ground.specs.Refusal.{Or, wrong, right}
 use Rattle.ground.specs.Limits.{longestText}
 use Rattle.ground.specs.Outcome.{Injective, Single}
 use Rattle.ground.proofs.Refusal.{never-right, same-right, same-wrong}
-use Rattle.ground.proofs.Outcome.{single-answer, single-value}
+use Rattle.ground.proofs.Outcome.{single-answer}
 use Rattle.ground.proofs.Tests.{by-test}
 use Rattle.texts.specs.Lines.{linesOf}
 use Rattle.texts.specs.Meaning.{OnePart}
@@ -18,10 +18,11 @@ use Rattle.texts.proofs.Places.{one-part}
 use Rattle.lines.specs.declared.Heading.{Heading}
 use Rattle.lines.specs.declared.Order.{Order}
 use Rattle.lines.specs.declared.Load.{Load}
+use Rattle.book.specs.Taking.{hold}
 use Rattle.orders.specs.Answers.{bookFor}
 use Rattle.orders.specs.Meaning.{CleanList}
 use Rattle.plans.specs.Judging.{noteLoad, judged, asJudged, shown}
-use Rattle.plans.specs.Meaning.{faultOf, Obeys, LoadWrong, FirstFault, RightBefore, PartShown}
+use Rattle.plans.specs.Meaning.{faultOf, holdOf, Obeys, LoadWrong, FirstFault, RightBefore, PartShown}
 use Rattle.plans.specs.declared.Fault.{Fault}
 use Rattle.plans.specs.declared.Judgement.{Judgement}
 use Rattle.plans.specs.declared.Judgement.the-variants as judgement
@@ -63,7 +64,7 @@ one-or-the-other list plan = by (judged list plan) refl
     by (wrong fault) e = inr (fault, fault-exactly list plan fault .0 e)
     by (right count) e = inl (right-exactly list plan count .0 e .0)
 
--- 2f, on bytes alone: before a line of the plan at fault stands a plan that is right with the number of the line less one
+-- 2f, on bytes alone: before a line of the plan at fault stands a plan that obeys the list, with one line less than the number of the line
 pub right-before-fault :
     (list plan : List ℕ) (fault : Fault) → judged list plan ≡ wrong fault → fault .plan ≡ true → 1 ≤ fault .line
     → RightBefore list plan fault (shown fault list plan)
@@ -74,6 +75,10 @@ pub refused-by-its-fault :
     (heading : Heading) (orders : List Order) (earlier : List Load) (line : List ℕ) (number : ℕ)
     → (noteLoad (bookFor heading) orders earlier line ≡ wrong number) ↔ LoadWrong heading orders earlier line number
 refused-by-its-fault = loads.line-wrong
+
+-- a load takes its chamber for as long as the book does that the list's first line opens
+pub hold-of-heading : (heading : Heading) → holdOf heading ≡ hold (bookFor heading)
+hold-of-heading heading = refl
 
 -- 1b: 9 in the list exactly when it is longer than 65,536 bytes, with line number 0 and the empty front
 pub list-too-long : (list plan : List ℕ) → (judged list plan ≡ wrong (faultOf 9 false 0 0 0)) ↔ (longestText < length list)

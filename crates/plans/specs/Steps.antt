@@ -20,7 +20,8 @@ use Rattle.plans.specs.declared.OrdersRead.{OrdersRead}
 -- what the orders of a list come to that are left where its reading has come to, with these orders before them
 abbrev pub ordersLeft : List ℕ → Progress → List Order → Or Fault ListKnown
 ordersLeft list progress orders =
-    through noteOrder false (progress .line) (progress .at) (record { book = progress .book; orders = orders }) (linesOf (drop (progress .at) list))
+    let known : ListKnown = record { book = progress .book; orders = orders } in
+    through noteOrder false (progress .line) (progress .at) known (linesOf (drop (progress .at) list))
 
 -- the hours of so many orders stand at the front of two buffers
 pub record HoursAre (orders : List Order) (readies dues : List ℕ) : Type 0 where

@@ -125,7 +125,11 @@ fn read_orders(list: &[u8], begun: Progress, readies: &mut [u32], dues: &mut [u3
 
 // A load that reads, checked up to refusal 14.
 fn checked(load: Load, run: u32, readies: &[u32], dues: &[u32], lines: &[u32]) -> LoadNoted
-    ensures { λ r. ⌜ r ≡ record { refusal = numberOf (loadMarked run (now (readies .entry)) (now (dues .entry)) (now (lines .entry)) load); load = load } ⌝ }
+    ensures { λ r. ⌜ r
+        ≡ record {
+          refusal = numberOf (loadMarked run (now (readies .entry)) (now (dues .entry)) (now (lines .entry)) load);
+          load = load;
+        } ⌝ }
 {
     LoadNoted {
         refusal: load_refusal(load, run, readies, dues, lines),
@@ -135,7 +139,8 @@ fn checked(load: Load, run: u32, readies: &[u32], dues: &[u32], lines: &[u32]) -
 
 // A plan line, for a list that begins with this book, read and checked up to refusal 14.
 fn note_load(line: &[u8], book: Book, readies: &[u32], dues: &[u32], lines: &[u32]) -> LoadNoted
-    ensures { λ r. ⌜ Loaded (book .chambers) (book .run) (now (readies .entry)) (now (dues .entry)) (now (lines .entry)) (now (line .entry)) r ⌝ }
+    ensures { λ r. ⌜ Loaded (book .chambers) (book .run) (now (readies .entry)) (now (dues .entry)) (now (lines .entry))
+        (now (line .entry)) r ⌝ }
 {
     match read_load(line, book.chambers) {
         LoadRead::Read(load) => checked(load, book.run, readies, dues, lines),
@@ -165,9 +170,8 @@ fn plan_fault(number: u32, line: u32, from: usize, to: usize) -> Judgement
 }
 
 // The loads of a plan, for a list that begins with this book and has orders of these hours: each plan line is noted, and the first earlier
-// load that it overlaps ends the search. For each order the plan line on which it
-// stands is kept, for each chamber the last plan line with a load
-// in it, and for each plan line the one before it in its chamber, 0 for none: the search goes from one to the next.
+// load that it overlaps ends the search. For each order the plan line on which it stands is kept, for each chamber the last plan line with
+// a load in it, and for each plan line the one before it in its chamber, 0 for none: the search goes from one to the next.
 fn judge_plan(plan: &[u8], book: Book, readies: &[u32], dues: &[u32]) -> Judgement
     requires { ⌜ (length (now readies) ≤ mostOrders) × (length (now dues) ≡ length (now readies)) ⌝ }
     requires { ⌜ book .chambers ≤ mostChambers ⌝ }

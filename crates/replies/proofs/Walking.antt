@@ -11,7 +11,8 @@ use Rattle.texts.proofs.WholeText.{lines-within}
 use Rattle.texts.proofs.Promises.{walk-on, walk-done}
 use Rattle.book.specs.Taking.{answerOf}
 use Rattle.book.specs.declared.Book.{Book}
-use Rattle.orders.specs.Answers.{opening, answersFrom, bookAfter, decision, bookPast, orderLines, lastLine, lineAfter, begunWith, progressPast}
+use Rattle.orders.specs.Answers.{opening, answersFrom, bookAfter, decision, bookPast, orderLines, begunWith, progressPast}
+use Rattle.orders.specs.Steps.{lastLine, lineAfter}
 use Rattle.replies.specs.Replies.{replyLine, sumLine, numbered, repliesFrom}
 use Rattle.orders.specs.declared.Progress.{Progress}
 use Rattle.orders.proofs.Places.{begun-left}
