@@ -3,9 +3,10 @@
 -- say. Assumes nothing.
 use Prim.Native.Nat.{ℕ, _+_, _-_, _*_, _^_, _≤_}
 use mathlib.Core.Path.{_≡_, refl, sym, ap, _∙_}
-use mathlib.Core.List.{List, _∷_, _++_}
+use mathlib.Core.List.{List, [], _∷_, _++_}
 use mathlib.Core.Logic.{_↔_}
 use lib.ListN.{length, take}
+use native.Mathlib.Numerals.{add-one}
 use native.Mathlib.Omega.{arith}
 use contract.Lifetimes.{Lfts}
 use denote.Ref.{RefT, now}
@@ -22,10 +23,10 @@ use Rattle.planlines.proofs.Promises.{plan-line-writes}
 use Rattle.planlines.proofs.write_plan_line.Reads as write-plan-line
 use Rattle.book.specs.Soundness.{freshBook}
 use Rattle.book.specs.declared.Answer.{Answer}
-use Rattle.book.specs.declared.Answer.the-variants.{Yes}
+use Rattle.book.specs.declared.Answer.the-variants.{Yes, No, Refused}
 use Rattle.lines.specs.declared.Heading.{Heading}
 use Rattle.lines.specs.declared.Order.{Order}
-use Rattle.orders.specs.Answers.{bookFor, orderLines, answersFrom, yeses, yesPlan}
+use Rattle.orders.specs.Answers.{bookFor, orderLines, answersFrom, yeses}
 use Rattle.orders.specs.Meaning.{FirstOf, Each, CleanList}
 use Rattle.orders.proofs.Promises.{first-and-further}
 use Rattle.replies.specs.Replies.{replyOf}
@@ -33,12 +34,41 @@ use Rattle.plans.specs.Judging.{judged}
 use Rattle.judgements.specs.Judgements.{checkedLine}
 use Rattle.judgements.specs.Meaning.{RightLine}
 use Rattle.limit.specs.Example.{paperList, paperPlan}
+use Rattle.limit.specs.Yeses.{yesPlan}
 use Rattle.limit.specs.Meaning.{SaysBad, EndsInSum, YesesWritten}
 use Rattle.limit.proofs.Bytes.{limit-on-bytes}
 use Rattle.limit.proofs.YesText.{line-short}
 use Rattle.limit.proofs.YesPlan as yes
 use Rattle.limit.proofs.Printed as printed
 use Rattle.limit.proofs.Reached.{paper-clean, paper-orders, paper-yeses, paper-right}
+
+-- The yeses of answers as a plan, from a line number on: a yes has its plan line, a no and a refusal have none.
+module _ (line : ℕ) where
+  pub plan-of-none : yesPlan line [] ≡ []
+  unfolding yesPlan
+  plan-of-none = refl
+
+  module _ (answers : List Answer) where
+    pub plan-of-yes : (chamber start : ℕ) → yesPlan line (Yes chamber start ∷ answers) ≡ planText line chamber start ++ yesPlan (line + 1) answers
+    unfolding yesPlan
+    plan-of-yes chamber start = rw add-one
+
+    pub plan-of-no : yesPlan line (No ∷ answers) ≡ yesPlan (line + 1) answers
+    unfolding yesPlan
+    plan-of-no = rw add-one
+
+    pub plan-of-refused : (number : ℕ) → yesPlan line (Refused number ∷ answers) ≡ yesPlan (line + 1) answers
+    unfolding yesPlan
+    plan-of-refused number = rw add-one
+
+    -- in one: it is the plan of exactly the yeses, each by its plan line's own text and in their order, and no other plan is
+    pub plan-of-yeses :
+        (plan : List ℕ)
+        → YesesWritten (λ order chamber start text. text ≡ planText order chamber start) line answers plan ↔ (plan ≡ yesPlan line answers)
+    plan-of-yeses plan = (
+      printed.written-plan (λ order chamber start text same. same),
+      λ same. rw same (printed.plan-written line answers),
+    )
 
 -- 3a: the yeses of a clean list, written as plan lines, are judged right with their number
 pub yeses-are-right :

@@ -28,7 +28,7 @@ use Rattle.planlines.proofs.RoundTrip.{clean-number, clean-hour}
 use Rattle.book.specs.declared.Book.{Book}
 use Rattle.book.specs.declared.Answer.{Answer}
 use Rattle.book.specs.declared.Answer.the-variants.{Yes, No, Refused}
-use Rattle.orders.specs.Answers.{opening, bookFor, orderLines, answersFrom, refusalsIn, refusals, yeses, yesPlan, refusedLine}
+use Rattle.orders.specs.Answers.{opening, bookFor, orderLines, answersFrom, refusalsIn, refusals, yeses, refusedLine}
 use Rattle.orders.specs.Meaning.{Each, CleanList}
 use Rattle.orders.proofs.Each.{never-among, each-none, each-before, each-first, each-rest, each-behind, each-front}
 use Rattle.orders.proofs.Promises.{clean-exactly}
@@ -40,6 +40,7 @@ use Rattle.judgements.specs.Judgements.{checkedLine}
 use Rattle.judgements.specs.Meaning.{RightLine}
 use Rattle.judgements.proofs.JudgementLine.{one-split}
 use Rattle.judgements.proofs.Promises.{checked-right}
+use Rattle.limit.specs.Yeses.{yesPlan}
 use Rattle.limit.specs.Meaning.{SaysBad, SumLine, EndsInSum, YesesWritten, none-left, with-yes, with-no, with-refused}
 use Rattle.limit.proofs.Bytes.{limit-on-bytes}
 use Rattle.limit.proofs.YesLoads.{yesLoads}
@@ -225,3 +226,13 @@ written-plan so none-left = refl
 written-plan so (with-yes {line} {chamber} {start} text wrote later) = rw (so line chamber start text wrote, written-plan so later)
 written-plan so (with-no later) = written-plan so later
 written-plan so (with-refused later) = written-plan so later
+
+-- and with the plan line's own text for what is written, theirs is such a plan
+pub plan-written :
+    (line : ℕ) (answers : List Answer)
+    → YesesWritten (λ order chamber start text. text ≡ planText order chamber start) line answers (yesPlan line answers)
+unfolding yesPlan
+plan-written line [] = none-left
+plan-written line (Yes chamber start ∷ answers) = with-yes (planText line chamber start) refl (plan-written (suc line) answers)
+plan-written line (No ∷ answers) = with-no (plan-written (suc line) answers)
+plan-written line (Refused number ∷ answers) = with-refused (plan-written (suc line) answers)

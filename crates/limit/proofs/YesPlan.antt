@@ -13,7 +13,7 @@ use Rattle.lines.specs.declared.Load.{Load}
 use Rattle.lines.proofs.Promises.{heading-ranges}
 use Rattle.book.specs.declared.Book.{Book}
 use Rattle.book.specs.declared.Answer.{Answer}
-use Rattle.orders.specs.Answers.{orderLines, answersFrom, yeses, yesPlan, bookFor}
+use Rattle.orders.specs.Answers.{orderLines, answersFrom, yeses, bookFor}
 use Rattle.orders.specs.Meaning.{Each, CleanList}
 use Rattle.orders.proofs.Each.{each-so}
 use Rattle.orders.proofs.Readings.{orders-exactly, loads-exactly}
@@ -22,6 +22,7 @@ use Rattle.orders.proofs.Clean.{clean-list}
 use Rattle.plans.specs.Judging.{judged}
 use Rattle.plans.specs.Meaning.{InTime, Obeys}
 use Rattle.plans.proofs.Promises.{right-exactly}
+use Rattle.limit.specs.Yeses.{yesPlan}
 use Rattle.limit.proofs.YesLoads.{yesLoads, Given, GivenLoads, yeses-given}
 use Rattle.limit.proofs.YesText.{loadText, plan-joined, loads-counted, load-lines, Writable, loads-read, loads-short}
 

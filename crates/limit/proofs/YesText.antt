@@ -22,9 +22,10 @@ use Rattle.lines.specs.declared.Load.{Load}
 use Rattle.planlines.proofs.RoundTrip.{text-ended, text-reads-back}
 use Rattle.book.specs.declared.Answer.{Answer}
 use Rattle.book.specs.declared.Answer.the-variants.{Yes, No, Refused}
-use Rattle.orders.specs.Answers.{yesPlan, yeses}
+use Rattle.orders.specs.Answers.{yeses}
 use Rattle.orders.specs.Meaning.{Each}
 use Rattle.orders.proofs.Each.{each-first, each-rest}
+use Rattle.limit.specs.Yeses.{yesPlan}
 use Rattle.limit.proofs.YesLoads.{yesLoads}
 
 -- a load as a plan line

@@ -1,3 +1,4 @@
--- The paper's whole example, and what is said of what is printed and written.
+-- The paper's whole example, the yeses as a plan, and what is said of what is printed and written.
 pub mod Example
+pub mod Yeses
 pub mod Meaning

@@ -6,7 +6,6 @@ use mathlib.Core.Path.{_≡_, refl, sym, ap, _∙_}
 use mathlib.Core.Logic.{_⊎_, _↔_}
 use mathlib.Core.List.{List, [], _∷_, _++_, tail-eq-of-cons-eq}
 use lib.ListN.{length, getD, drop}
-use native.Mathlib.Numerals.{add-one}
 use native.Mathlib.Omega.{arith}
 use contract.Lifetimes.{Lfts}
 use denote.Ref.{RefT, now}
@@ -21,7 +20,6 @@ use Rattle.lines.specs.Meaning.{HeadingReads, HeadingFault, OrderReads, OrderFa
 use Rattle.lines.specs.declared.Heading.{Heading}
 use Rattle.lines.specs.declared.Order.{Order}
 use Rattle.lines.proofs.Promises.{heading-reads, order-reads, order-fault, line-fault-from}
-use Rattle.planlines.specs.Writing.{planText}
 use Rattle.book.specs.Taking.{decided, told, answerOf}
 use Rattle.book.specs.declared.Book.{Book}
 use Rattle.book.specs.declared.Taken.{Taken}
@@ -29,7 +27,7 @@ use Rattle.book.specs.declared.Answer.{Answer}
 use Rattle.book.specs.declared.Answer.the-variants.{Yes, No, Refused}
 use Rattle.book.proofs.Promises.{answer-told}
 use Rattle.book.proofs.Book.take.Reads as take
-use Rattle.orders.specs.Answers.{bookFor, opening, orderLines, answersFrom, bookAfter, decision, bookPast, refusals, yeses, yesPlan, begunBy, progressPast}
+use Rattle.orders.specs.Answers.{bookFor, opening, orderLines, answersFrom, bookAfter, decision, bookPast, refusals, yeses, begunBy, progressPast}
 use Rattle.orders.specs.Meaning.{HasLines, FirstOf, of-lines, CleanOrders, CleanList, OrderWrong}
 use Rattle.orders.specs.History.{newBook, Answers, Counts}
 use Rattle.orders.specs.declared.Begun.{Begun}
@@ -267,25 +265,6 @@ pub yeses-and-refusals :
     (before after kept taken : ℕ) (lines : List (List ℕ)) (answers : List Answer) → Counts before lines answers kept taken after
     → (yeses answers ≡ kept) × (refusals answers + taken ≡ length answers)
 yeses-and-refusals before after kept taken lines answers = tallies.counts-are
-
--- The yeses of answers as a plan, from a line number on: a yes has its plan line, a no and a refusal have none.
-module _ (line : ℕ) where
-  pub plan-of-none : yesPlan line [] ≡ []
-  unfolding yesPlan
-  plan-of-none = refl
-
-  module _ (answers : List Answer) where
-    pub plan-of-yes : (chamber start : ℕ) → yesPlan line (Yes chamber start ∷ answers) ≡ planText line chamber start ++ yesPlan (line + 1) answers
-    unfolding yesPlan
-    plan-of-yes chamber start = rw add-one
-
-    pub plan-of-no : yesPlan line (No ∷ answers) ≡ yesPlan (line + 1) answers
-    unfolding yesPlan
-    plan-of-no = rw add-one
-
-    pub plan-of-refused : (number : ℕ) → yesPlan line (Refused number ∷ answers) ≡ yesPlan (line + 1) answers
-    unfolding yesPlan
-    plan-of-refused number = rw add-one
 
 -- a list is clean exactly when it begins and the desk refuses none of its lines
 pub clean-exactly :

@@ -3,14 +3,13 @@
 use Prim.Native.Nat.{ℕ, suc, _+_, min}
 use mathlib.Core.Path.{_≡_}
 use mathlib.Core.Bool.{cond}
-use mathlib.Core.List.{List, [], _∷_, _++_}
+use mathlib.Core.List.{List, [], _∷_}
 use lib.ListN.{length, drop}
 use lib.Dec.{leb, eqb}
 use Rattle.ground.specs.Refusal.{Read, wrong, right, check, _>>=_, _>>_}
 use Rattle.ground.specs.Limits.{longestText}
 use Rattle.texts.specs.Lines.{linesOf, lineAt, pastLine}
 use Rattle.lines.specs.Reading.{headingOf, orderOf}
-use Rattle.planlines.specs.Writing.{planText}
 use Rattle.lines.specs.declared.Heading.{Heading}
 use Rattle.lines.specs.declared.Order.{Order}
 use Rattle.book.specs.Soundness.{freshBook}
@@ -78,17 +77,6 @@ yesesIn (Refused number) = 0
 unfoldable pub yeses : List Answer → ℕ
 yeses [] = 0
 yeses (answer ∷ answers) = yesesIn answer + yeses answers
-
--- a yes as a plan line, with the number of its order's line; a no and a refusal have none
-abbrev pub planLineFor : ℕ → Answer → List ℕ
-planLineFor line (Yes chamber start) = planText line chamber start
-planLineFor line No = []
-planLineFor line (Refused number) = []
-
--- the yeses of answers as a plan, their lines counted from a number on
-unfoldable pub yesPlan : ℕ → List Answer → List ℕ
-yesPlan line [] = []
-yesPlan line (answer ∷ answers) = planLineFor line answer ++ yesPlan (suc line) answers
 
 -- the number of the line that is refused before any order: "A bad first line prints `1→bad→N`", "a text too long prints `0→bad→9`"
 abbrev pub refusedLine : ℕ → ℕ
