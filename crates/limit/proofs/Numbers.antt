@@ -3,7 +3,6 @@ use Prim.Native.Nat.{ℕ, _-_}
 use mathlib.Core.List.{List}
 use lib.ListN.{take}
 use Rattle.ground.specs.Limits.{firstOrderLine}
-use Rattle.lines.specs.declared.Heading.{Heading}
 use Rattle.lines.specs.declared.Order as lines
 use Rattle.lines.specs.declared.Load.{Load}
 use Rattle.book.specs.History.{OrderHours}

@@ -1,7 +1,6 @@
 -- The third demand over what the programs print and the writer writes. Assumes nothing.
 use Prim.Native.Nat.{ℕ, suc, _+_, _-_, _*_, _^_, _≤_}
 use mathlib.Core.Path.{_≡_, refl, sym, ap, _∙_}
-use mathlib.Core.Bool.{true}
 use mathlib.Core.List.{List, [], _∷_, _++_, head-eq-of-cons-eq, tail-eq-of-cons-eq}
 use lib.ListN.{length}
 use lib.Dec.{leb}
@@ -9,22 +8,16 @@ use native.Mathlib.Omega.{arith}
 use Rattle.ground.specs.Refusal.{Read, wrong, right, _>>=_}
 use Rattle.ground.specs.Limits.{longestText}
 use Rattle.ground.specs.Digits.{spelled}
-use Rattle.ground.specs.Spelling.{AllDigits, valueOf}
+use Rattle.ground.specs.Spelling.{AllDigits}
 use Rattle.ground.specs.Text.{bytes}
-use Rattle.ground.proofs.Tests.{both}
 use Rattle.ground.proofs.Refusal.{never-right, same-right, passed-by}
-use Rattle.ground.proofs.Digits.{spelled-digits}
-use Rattle.ground.proofs.Promises.{spelled-exactly}
 use Rattle.texts.specs.Lines.{linesOf, lineAt}
-use Rattle.fields.specs.Meaning.{isClean, allClean, Splits}
-use Rattle.writer.proofs.Promises.{line-splits}
 use Rattle.lines.specs.Reading.{headingOf}
 use Rattle.lines.specs.declared.Heading.{Heading}
 use Rattle.lines.specs.declared.Order.{Order}
 use Rattle.lines.specs.declared.Load.{Load}
 use Rattle.planlines.specs.Writing.{planText}
 use Rattle.planlines.specs.Meaning.{InRange}
-use Rattle.planlines.proofs.RoundTrip.{clean-number, clean-hour}
 use Rattle.book.specs.declared.Book.{Book}
 use Rattle.book.specs.declared.Answer.{Answer}
 use Rattle.book.specs.declared.Answer.the-variants.{Yes, No, Refused}
@@ -33,7 +26,8 @@ use Rattle.orders.specs.Meaning.{Each, CleanList}
 use Rattle.orders.proofs.Each.{never-among, each-none, each-before, each-first, each-rest, each-behind, each-front}
 use Rattle.orders.proofs.Promises.{clean-exactly}
 use Rattle.replies.specs.Replies.{answerFields, replyLine, sumLine, numbered, repliesFrom, repliesBy, replyOf}
-use Rattle.replies.proofs.Promises.{reply-lines, clean-reply}
+use Rattle.replies.proofs.Fields.{reply-splits}
+use Rattle.replies.proofs.Promises.{sum-line-says, sum-line-once, reply-lines, clean-reply}
 use Rattle.plans.specs.Judging.{judged}
 use Rattle.plans.proofs.Promises.{right-exactly}
 use Rattle.judgements.specs.Judgements.{checkedLine}
@@ -41,7 +35,7 @@ use Rattle.judgements.specs.Meaning.{RightLine}
 use Rattle.judgements.proofs.JudgementLine.{one-split}
 use Rattle.judgements.proofs.Promises.{checked-right}
 use Rattle.limit.specs.Yeses.{yesPlan}
-use Rattle.limit.specs.Meaning.{SaysBad, SumLine, EndsInSum, YesesWritten, none-left, with-yes, with-no, with-refused}
+use Rattle.limit.specs.Meaning.{SaysBad, EndsInSum, YesesWritten, none-left, with-yes, with-no, with-refused}
 use Rattle.limit.proofs.Bytes.{limit-on-bytes}
 use Rattle.limit.proofs.YesLoads.{yesLoads}
 use Rattle.limit.proofs.YesPlan as yes
@@ -53,30 +47,9 @@ last-one [] (first ∷ other) one last same = absurd (never-among other last [] 
 last-one (first ∷ front) [] one last same = absurd (never-among front one [] (sym (tail-eq-of-cons-eq same)))
 last-one (first ∷ front) (second ∷ other) one last same = last-one front other one last (tail-eq-of-cons-eq same)
 
--- the fields of the sum, and of a reply
-sum-splits : (taken kept : ℕ) → Splits (sumLine taken kept) (bytes "sum" ∷ spelled taken ∷ spelled kept ∷ [])
-unfolding sumLine allClean isClean bytes
-sum-splits taken kept = line-splits (bytes "sum") (spelled taken ∷ spelled kept ∷ []) (both (clean-number taken) (both (clean-number kept) refl))
-
-answer-clean : (answer : Answer) → allClean (answerFields answer) ≡ true
-unfolding allClean isClean bytes
-answer-clean (Yes chamber start) = both (clean-number chamber) (both (clean-hour start) refl)
-answer-clean No = refl
-answer-clean (Refused number) = both (clean-number number) refl
-
-reply-splits : (line : ℕ) (answer : Answer) → Splits (replyLine line answer) (spelled line ∷ answerFields answer)
-unfolding replyLine allClean
-reply-splits line answer = line-splits (spelled line) (answerFields answer) (both (clean-number line) (answer-clean answer))
-
--- a sum line says one number kept
-kept-told : (count other : ℕ) {taken kept : ℕ} → SumLine taken kept (sumLine count other) → kept ≡ other
-kept-told count other said =
-    let split = one-split (said .splits) (sum-splits count other) in
-    let word : said .second ≡ spelled other = head-eq-of-cons-eq (tail-eq-of-cons-eq (tail-eq-of-cons-eq split)) in
-    sym (said .kept-digits .worth) ∙ ap valueOf word ∙ spelled-exactly other (spelled other) .0 refl .worth
-
 -- a refusal's line says `bad`
 refusal-says-bad : (line number : ℕ) → SaysBad (replyLine line (Refused number))
+unfolding bytes
 refusal-says-bad line number = record { number = spelled line; behind = spelled number ∷ []; splits = reply-splits line (Refused number) }
 
 -- so where no reply says it no answer is a refusal
@@ -88,7 +61,7 @@ none-refused line (No ∷ answers) none = omega (arith, none-refused (suc line) 
 none-refused line (Refused number ∷ answers) none = absurd (each-first none (refusal-says-bad line number))
 
 -- a yes and a no say another word, and so their lines never say `bad`
-word-behind : (line : ℕ) (answer : Answer) (said : SaysBad (replyLine line answer)) → bytes "bad" ∷ said .behind ≡ answerFields answer
+word-behind : (line : ℕ) (answer : Answer) (said : SaysBad (replyLine line answer)) → (98 ∷ 97 ∷ 100 ∷ []) ∷ said .behind ≡ answerFields answer
 word-behind line answer said = tail-eq-of-cons-eq (one-split (said .splits) (reply-splits line answer))
 
 answer-not-bad : (line : ℕ) (answer : Answer) → refusalsIn answer ≡ 0 → SaysBad (replyLine line answer) → ⊥
@@ -99,11 +72,11 @@ answer-not-bad line (Refused number) none said = omega arith
 
 -- nor does the sum, whose second field is a number
 sum-not-bad : (taken kept : ℕ) → SaysBad (sumLine taken kept) → ⊥
-unfolding bytes AllDigits
+unfolding AllDigits
 sum-not-bad taken kept said =
-    let split = one-split (said .splits) (sum-splits taken kept) in
-    let word : spelled taken ≡ bytes "bad" = sym (head-eq-of-cons-eq (tail-eq-of-cons-eq split)) in
-    omega (arith, rw word at (spelled-digits taken) .0)
+    let sum = sum-line-says taken kept in
+    let word : sum .taken-digits ≡ 98 ∷ 97 ∷ 100 ∷ [] = sym (head-eq-of-cons-eq (tail-eq-of-cons-eq (one-split (said .splits) (sum .splits)))) in
+    omega (arith, rw word at (sum .counts-taken .digits) .0)
 
 -- so replies to answers of which none is a refusal never say it
 none-bad : (line : ℕ) (answers : List Answer) → refusals answers ≡ 0 → Each (λ reply. SaysBad reply → ⊥) (numbered line answers)
@@ -148,7 +121,8 @@ module _ (list : List ℕ) (heading : Heading) (headed : headingOf (lineAt list 
       let answers : List Answer = answersFrom (bookFor heading) (orderLines list) in
       let same = sym (ends .whole) ∙ clean-reply list heading (prints-clean .0) (prints-clean .1) in
       let last : ends .last ≡ sumLine (length (orderLines list)) (yeses answers) = last-one (ends .front) (numbered 2 answers) _ _ same in
-      sym (kept-told (length (orderLines list)) (yeses answers) (rw last at (ends .sum)))
+      let told = sum-line-says (length (orderLines list)) (yeses answers) in
+      sum-line-once _ _ _ _ _ told (rw last at (ends .sum)) .1
 
 -- The reply to a clean list
 module _ (list : List ℕ) (heading : Heading) (orders : List Order) (clean : CleanList list heading orders) where
@@ -168,14 +142,7 @@ module _ (list : List ℕ) (heading : Heading) (orders : List Order) (clean : Cl
         front = numbered 2 (answersFrom (bookFor heading) (orderLines list));
         last = sumLine taken kept;
         whole = clean-reply list heading orders clean;
-        sum =
-            record {
-              first = spelled taken;
-              second = spelled kept;
-              splits = sum-splits taken kept;
-              taken-digits = spelled-exactly taken (spelled taken) .0 refl;
-              kept-digits = spelled-exactly kept (spelled kept) .0 refl;
-            };
+        sum = sum-line-says taken kept;
       }
 
 -- 3b over what is printed

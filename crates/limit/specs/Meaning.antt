@@ -3,32 +3,23 @@
 use Prim.Native.Nat.{ℕ, suc}
 use mathlib.Core.Path.{_≡_}
 use mathlib.Core.List.{List, [], _∷_, _++_}
-use Rattle.ground.specs.Spelling.{DigitsOf}
-use Rattle.ground.specs.Text.{bytes}
 use Rattle.fields.specs.Meaning.{Splits}
 use Rattle.book.specs.declared.Answer.{Answer}
 use Rattle.book.specs.declared.Answer.the-variants.{Yes, No, Refused}
+use Rattle.replies.specs.Meaning.{SumOf}
 
--- "line number, then … `bad` and the refusal number": a line whose second field is that word
+-- "line number, then … `bad` and the refusal number": a line whose second field is that word, as its bytes
 pub record SaysBad (line : List ℕ) : Type 0 where
   pub number : List ℕ
   pub behind : List (List ℕ)
-  pub splits : Splits line (number ∷ bytes "bad" ∷ behind)
-
--- "`sum`, taken, kept": that word and the digits of two numbers, and no more
-pub record SumLine (taken kept : ℕ) (line : List ℕ) : Type 0 where
-  pub first : List ℕ
-  pub second : List ℕ
-  pub splits : Splits line (bytes "sum" ∷ first ∷ second ∷ [])
-  pub taken-digits : DigitsOf taken first
-  pub kept-digits : DigitsOf kept second
+  pub splits : Splits line (number ∷ (98 ∷ 97 ∷ 100 ∷ []) ∷ behind)
 
 -- "The last line is `sum`, taken, kept"
 pub record EndsInSum (taken kept : ℕ) (lines : List (List ℕ)) : Type 0 where
   pub front : List (List ℕ)
   pub last : List ℕ
   pub whole : lines ≡ front ++ last ∷ []
-  pub sum : SumLine taken kept last
+  pub sum : SumOf taken kept last
 
 -- the plan of the yeses among answers, their lines counted from a number on, over what it means that a plan line was written of its three
 -- numbers: each yes as a plan line, one behind the other in the order of the list

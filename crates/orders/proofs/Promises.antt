@@ -24,7 +24,7 @@ use Rattle.book.specs.Taking.{decided, told, answerOf}
 use Rattle.book.specs.declared.Book.{Book}
 use Rattle.book.specs.declared.Taken.{Taken}
 use Rattle.book.specs.declared.Answer.{Answer}
-use Rattle.book.specs.declared.Answer.the-variants.{Yes, No, Refused}
+use Rattle.book.specs.declared.Answer.the-variants.{No, Refused}
 use Rattle.book.proofs.Promises.{answer-told}
 use Rattle.book.proofs.Book.take.Reads as take
 use Rattle.orders.specs.Answers.{bookFor, opening, orderLines, answersFrom, bookAfter, decision, bookPast, refusals, yeses, begunBy, progressPast}

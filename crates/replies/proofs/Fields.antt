@@ -17,7 +17,7 @@ use Rattle.hours.proofs.Promises.{reads-exactly}
 use Rattle.fields.specs.Meaning.{allClean, isClean, Splits}
 use Rattle.fields.proofs.Promises.{splits-exactly}
 use Rattle.planlines.proofs.RoundTrip.{clean-number}
-use Rattle.writer.proofs.Promises.{hour-text}
+use Rattle.writer.proofs.Promises.{hour-text, line-splits}
 use Rattle.book.specs.declared.Answer.{Answer}
 use Rattle.book.specs.declared.Answer.the-variants.{Yes, No, Refused}
 use Rattle.replies.specs.Replies.{answerFields, replyLine, sumLine, startInRange}
@@ -39,16 +39,20 @@ answer-fields (Yes chamber start) within = yes-fields chamber start _ _ (spelled
 answer-fields No within = no-fields
 answer-fields (Refused number) within = bad-fields number _ (spelled-digits number)
 
--- the fields of its reply
-pub reply-fields : (line : ℕ) (answer : Answer) → startInRange answer ≡ true → ReplyTo line answer (replyLine line answer)
+-- the fields that any reply splits into
+pub reply-splits : (line : ℕ) (answer : Answer) → Splits (replyLine line answer) (spelled line ∷ answerFields answer)
 unfolding replyLine allClean
+reply-splits line answer = line-splits (spelled line) (answerFields answer) (both (clean-number line) (answer-clean answer))
+
+-- so the fields of the reply to such an answer
+pub reply-fields : (line : ℕ) (answer : Answer) → startInRange answer ≡ true → ReplyTo line answer (replyLine line answer)
 reply-fields line answer within =
     record {
       number = spelled line;
       fields = answerFields answer;
       numbered = spelled-digits line;
       answered = answer-fields answer within;
-      splits = record { some = omega arith; clean = both (clean-number line) (answer-clean answer); joined = refl };
+      splits = reply-splits line answer;
     }
 
 pub sum-fields : (taken kept : ℕ) → SumOf taken kept (sumLine taken kept)
