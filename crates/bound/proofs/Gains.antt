@@ -8,7 +8,8 @@ use native.Mathlib.Omega.{arith}
 use Rattle.book.specs.History.{OrderHours}
 use Rattle.choice.specs.declared.Choice.{Choice}
 use Rattle.choice.specs.declared.Choice.the-variants.{Nothing, Chamber}
-use Rattle.bound.specs.Plans.{choiceOf, freeAfter, InTurn, KeepsTo}
+use Rattle.bound.specs.Plans.{InTurn, KeepsTo}
+use Rattle.bound.specs.Keeping.{choiceOf, freeAfter}
 use Rattle.bound.proofs.Weights.{step, pre}
 use Rattle.bound.proofs.Counting.{above, window, above-most, unfit-above, window-most}
 use Rattle.bound.proofs.OneOrder.{Counted, counted, above-kept}

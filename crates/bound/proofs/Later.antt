@@ -4,7 +4,7 @@ use Prim.Native.Nat.{ℕ, zero, suc}
 use mathlib.Core.Path.{ap}
 use mathlib.Core.List.{List, [], _∷_}
 use Rattle.book.specs.History.{OrderHours}
-use Rattle.bound.specs.Plans.{Lengths, PlanLoad, KeepsTo, GoodLoad, Apart, ApartFrom, GoodPlan}
+use Rattle.bound.specs.Plans.{Lengths, PlanLoad, KeepsTo, GoodLoad, Separate, SeparateFrom, GoodPlan}
 
 -- a load by its numbers
 abbrev pub loadAt : ℕ → ℕ → ℕ → PlanLoad
@@ -20,40 +20,40 @@ unfoldable pub later : List PlanLoad → List PlanLoad
 later [] = []
 later (load ∷ loads) = moved (load .order) (load .chamber) (load .start) (later loads)
 
--- two loads of later orders stay apart
-apart-moved :
+-- two loads of later orders stay separate
+separate-moved :
     (lengths : Lengths) (place chamber start other-place other-chamber other-start : ℕ) (loads : List PlanLoad)
-    → Apart lengths (loadAt (suc place) chamber start) (loadAt other-place other-chamber other-start)
-    → ApartFrom lengths (loadAt place chamber start) loads
-    → ApartFrom lengths (loadAt place chamber start) (moved other-place other-chamber other-start loads)
-unfolding ApartFrom
-apart-moved lengths place chamber start zero other-chamber other-start loads apart rest = rest
-apart-moved lengths place chamber start (suc other-place) other-chamber other-start loads apart rest = (
-  record { orders-differ = λ same. apart .orders-differ (ap suc same); never-overlap = apart .never-overlap },
+    → Separate lengths (loadAt (suc place) chamber start) (loadAt other-place other-chamber other-start)
+    → SeparateFrom lengths (loadAt place chamber start) loads
+    → SeparateFrom lengths (loadAt place chamber start) (moved other-place other-chamber other-start loads)
+unfolding SeparateFrom
+separate-moved lengths place chamber start zero other-chamber other-start loads separate rest = rest
+separate-moved lengths place chamber start (suc other-place) other-chamber other-start loads separate rest = (
+  record { orders-differ = λ same. separate .orders-differ (ap suc same); never-overlap = separate .never-overlap },
   rest,
 )
 
--- a load stays apart from those of later orders
-apart-later :
-    (lengths : Lengths) (place chamber start : ℕ) (loads : List PlanLoad) → ApartFrom lengths (loadAt (suc place) chamber start) loads
-    → ApartFrom lengths (loadAt place chamber start) (later loads)
-unfolding ApartFrom later
-apart-later lengths place chamber start [] apart = tt
-apart-later lengths place chamber start (other ∷ loads) apart =
-    apart-moved lengths place chamber start (other .order) (other .chamber) (other .start) (later loads) (apart .0)
-    (apart-later lengths place chamber start loads (apart .1))
+-- a load stays separate from those of later orders
+separate-later :
+    (lengths : Lengths) (place chamber start : ℕ) (loads : List PlanLoad) → SeparateFrom lengths (loadAt (suc place) chamber start) loads
+    → SeparateFrom lengths (loadAt place chamber start) (later loads)
+unfolding SeparateFrom later
+separate-later lengths place chamber start [] separate = tt
+separate-later lengths place chamber start (other ∷ loads) separate =
+    separate-moved lengths place chamber start (other .order) (other .chamber) (other .start) (later loads) (separate .0)
+    (separate-later lengths place chamber start loads (separate .1))
 
 module _ (chambers : ℕ) (lengths : Lengths) (order : OrderHours) (orders : List OrderHours) where
   -- a load stays good
   good-moved :
       (place chamber start : ℕ) (loads : List PlanLoad) → GoodLoad chambers (lengths .run) (order ∷ orders) (loadAt place chamber start)
-      → ApartFrom lengths (loadAt place chamber start) loads → GoodPlan chambers lengths orders (later loads)
+      → SeparateFrom lengths (loadAt place chamber start) loads → GoodPlan chambers lengths orders (later loads)
       → GoodPlan chambers lengths orders (moved place chamber start (later loads))
   unfolding GoodPlan KeepsTo
-  good-moved zero chamber start loads good apart rest = rest
-  good-moved (suc place) chamber start loads good apart rest = (
+  good-moved zero chamber start loads good separate rest = rest
+  good-moved (suc place) chamber start loads good separate rest = (
     record { keeps = good .keeps; numbered = good .numbered },
-    apart-later lengths place chamber start loads apart,
+    separate-later lengths place chamber start loads separate,
     rest,
   )
 

@@ -6,5 +6,6 @@ pub mod Windows
 pub mod Gains
 pub mod Later
 pub mod Upper
+pub mod Keeping
 pub mod Limit
 pub mod Reached

@@ -11,7 +11,7 @@ use Rattle.ground.proofs.Tests.{by-test}
 use Rattle.choice.specs.BestFit.{offer, better, bestFit}
 use Rattle.choice.specs.declared.Choice.{Choice}
 use Rattle.choice.specs.declared.Choice.the-variants.{Nothing, Chamber}
-use Rattle.bound.specs.Plans.{freeAfter}
+use Rattle.bound.specs.Keeping.{freeAfter}
 use Rattle.bound.proofs.Counting.{above, unfit, window, above-most, above-set}
 
 -- what is known of a yes, where the chambers are counted from a number on

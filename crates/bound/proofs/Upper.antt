@@ -12,7 +12,8 @@ use Rattle.ground.proofs.Tests.{by-test}
 use Rattle.book.specs.History.{OrderHours}
 use Rattle.choice.specs.declared.Choice.{Choice}
 use Rattle.choice.specs.declared.Choice.the-variants.{Nothing, Chamber}
-use Rattle.bound.specs.Plans.{Lengths, choiceOf, freeAfter, keptBy, keptOf, PlanLoad, KeepsTo, GoodLoad, ApartFrom, GoodPlan}
+use Rattle.bound.specs.Plans.{Lengths, PlanLoad, KeepsTo, GoodLoad, SeparateFrom, GoodPlan}
+use Rattle.bound.specs.Keeping.{choiceOf, freeAfter, keptBy, keptOf}
 use Rattle.bound.proofs.Weights.{weight, step, pre, steps-grow, pre-grows, steps-and-rest}
 use Rattle.bound.proofs.Counting.{above, unfit, window, unfit-above, window-from}
 use Rattle.bound.proofs.OneOrder.{CountedYes, Counted, counted}
@@ -43,14 +44,14 @@ not-own (suc place) rest other = refl
 
 -- beside a load of the order no other gains by its own order
 none-own :
-    (m : ℕ) (lengths : Lengths) (free : List ℕ) (load : PlanLoad) (loads : List PlanLoad) → load .order ≡ 0 → ApartFrom lengths load loads
+    (m : ℕ) (lengths : Lengths) (free : List ℕ) (load : PlanLoad) (loads : List PlanLoad) → load .order ≡ 0 → SeparateFrom lengths load loads
     → sum (ownOf m free) loads ≡ 0
-unfolding sum ApartFrom
-none-own m lengths free load [] own apart = refl
-none-own m lengths free load (other ∷ loads) own apart =
+unfolding sum SeparateFrom
+none-own m lengths free load [] own separate = refl
+none-own m lengths free load (other ∷ loads) own separate =
     rw (
-      not-own (other .order) (pre m m - pre m (above (other .start) free)) (λ own-too. apart .0 .orders-differ (omega arith)),
-      none-own m lengths free load loads own (apart .1),
+      not-own (other .order) (pre m m - pre m (above (other .start) free)) (λ own-too. separate .0 .orders-differ (omega arith)),
+      none-own m lengths free load loads own (separate .1),
     )
     refl
 
@@ -93,13 +94,13 @@ module _ (m : ℕ) (lengths : Lengths) (free : List ℕ) (order : OrderHours) wh
   -- one load's part of the next law
   own-step :
       (orders : List OrderHours) (place chamber start : ℕ) (loads : List PlanLoad) → GoodLoad m (lengths .run) (order ∷ orders) (loadAt place chamber start)
-      → ApartFrom lengths (loadAt place chamber start) loads
+      → SeparateFrom lengths (loadAt place chamber start) loads
       → sum (ownOf m free) loads ≤ pre m m - pre m (unfitOf (lengths .run) free order)
       → ownOf m free (loadAt place chamber start) + sum (ownOf m free) loads ≤ pre m m - pre m (unfitOf (lengths .run) free order)
   unfolding KeepsTo
-  own-step orders zero chamber start loads good apart rest =
-      rw (none-own m lengths free (loadAt zero chamber start) loads refl apart) (omega (arith, rest-most start (good .keeps .0) (good .keeps .1)))
-  own-step orders (suc place) chamber start loads good apart rest = omega (arith, rest)
+  own-step orders zero chamber start loads good separate rest =
+      rw (none-own m lengths free (loadAt zero chamber start) loads refl separate) (omega (arith, rest-most start (good .keeps .0) (good .keeps .1)))
+  own-step orders (suc place) chamber start loads good separate rest = omega (arith, rest)
 
   -- one load at most gains by its own order
   own-most :

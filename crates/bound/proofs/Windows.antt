@@ -8,7 +8,7 @@ use native.Mathlib.Omega.{arith}
 use borrow.Author.Tests.{leb-true, leb-false, eqb-true, eqb-false, le-leb, lt-leb, ne-eqb}
 use Rattle.ground.proofs.Tests.{by-test}
 use Rattle.book.specs.History.{OrderHours}
-use Rattle.bound.specs.Plans.{Lengths, PlanLoad, ApartFrom, GoodPlan}
+use Rattle.bound.specs.Plans.{Lengths, PlanLoad, SeparateFrom, GoodPlan}
 use Rattle.bound.proofs.Counting.{window, window-most, window-from, window-until}
 
 -- a number for each load, together
@@ -55,12 +55,12 @@ module _ (start : ℕ) (lengths : Lengths) where
 
   -- beside a load that starts in the window no other of its chamber does
   alone :
-      (chamber : ℕ) (load : PlanLoad) (loads : List PlanLoad) → load .chamber ≡ chamber → 1 ≤ inWindow load → ApartFrom lengths load loads
+      (chamber : ℕ) (load : PlanLoad) (loads : List PlanLoad) → load .chamber ≡ chamber → 1 ≤ inWindow load → SeparateFrom lengths load loads
       → sum (inChamber chamber) loads ≡ 0
-  unfolding sum ApartFrom inChamber
-  alone chamber load [] here inside apart = refl
-  alone chamber load (other ∷ loads) here inside apart =
-      let rest : sum (inChamber chamber) loads ≡ 0 = alone chamber load loads here inside (apart .1) in
+  unfolding sum SeparateFrom inChamber
+  alone chamber load [] here inside separate = refl
+  alone chamber load (other ∷ loads) here inside separate =
+      let rest : sum (inChamber chamber) loads ≡ 0 = alone chamber load loads here inside (separate .1) in
       by-test (eqb (other .chamber) chamber)
       (λ test.
       by-test (leb 1 (inWindow other))
@@ -70,7 +70,7 @@ module _ (start : ℕ) (lengths : Lengths) where
       let other-begun = window-from start (lengths .hold) (other .start) (leb-true 1 (inWindow other) too) in
       let unfinished = window-until start (lengths .hold) (load .start) inside in
       let other-unfinished = window-until start (lengths .hold) (other .start) (leb-true 1 (inWindow other) too) in
-      absurd (apart .0 .never-overlap (omega arith) (omega arith) (omega arith)))
+      absurd (separate .0 .never-overlap (omega arith) (omega arith) (omega arith)))
       (λ never. let none = leb-false 1 (inWindow other) never in rw test (omega arith)))
       (λ test. rw test (omega arith))
 

@@ -1,2 +1,3 @@
--- What the theorem of this room speaks of.
+-- What the theorem of this room speaks of, and what its proof computes.
 pub mod Plans
+pub mod Keeping

@@ -3,36 +3,28 @@
 use Prim.Native.Nat.{ℕ, zero, suc, _+_, _-_, _≤_, _<_}
 use mathlib.Core.Path.{_≡_}
 use mathlib.Core.List.{List, [], _∷_}
-use lib.ListN.{set}
-use Rattle.choice.specs.BestFit.{bestFit}
+use lib.ListN.{length, set}
+use Rattle.choice.specs.Meaning.{BestFitting, NoneFits}
 use Rattle.book.specs.History.{OrderHours}
-use Rattle.choice.specs.declared.Choice.{Choice}
-use Rattle.choice.specs.declared.Choice.the-variants.{Nothing, Chamber}
-
--- the rule's answer to an order, where the chambers have these free hours
-abbrev pub choiceOf : ℕ → List ℕ → OrderHours → Choice
-choiceOf run free order = bestFit (order .ready) (order .due) run 1 free
-
--- the free hours after an answer: a yes takes its chamber for as long as a load holds it
-abbrev pub freeAfter : ℕ → List ℕ → Choice → List ℕ
-freeAfter hold free Nothing = free
-freeAfter hold free (Chamber chamber start) = set free (chamber - 1) (start + hold)
-
--- a yes counts one, a no nothing
-abbrev pub keptBy : Choice → ℕ
-keptBy Nothing = 0
-keptBy (Chamber chamber start) = 1
 
 -- how long a run lasts, and how long a load holds its chamber
 pub record Lengths : Type 0 where
   pub run : ℕ
   pub hold : ℕ
 
--- how many of several orders are kept, one after another from given free hours on
-unfoldable pub keptOf : Lengths → List ℕ → List OrderHours → ℕ
-keptOf lengths free [] = 0
-keptOf lengths free (order ∷ orders) =
-    keptBy (choiceOf (lengths .run) free order) + keptOf lengths (freeAfter (lengths .hold) free (choiceOf (lengths .run) free order)) orders
+-- the rule keeps so many of several orders, answered one after another, where the chambers have these free hours: an order with a yes
+-- counts one, and the chamber that fits it best is then free when the load no longer holds it; one that no chamber fits has a no, counts
+-- none and changes nothing
+pub data Keeps (lengths : Lengths) : List ℕ → List OrderHours → ℕ → Type 0 where
+  none-left : {free : List ℕ} → Keeps lengths free [] 0
+  with-yes :
+      {free : List ℕ} {orders : List OrderHours} {count : ℕ} (order : OrderHours) (chamber start : ℕ)
+      → BestFitting (order .ready) (order .due) (lengths .run) free (length free) chamber start
+      → Keeps lengths (set free (chamber - 1) (start + lengths .hold)) orders count → Keeps lengths free (order ∷ orders) (suc count)
+  with-no :
+      {free : List ℕ} {orders : List OrderHours} {count : ℕ} (order : OrderHours)
+      → NoneFits (order .ready) (order .due) (lengths .run) free (length free) → Keeps lengths free orders count
+      → Keeps lengths free (order ∷ orders) count
 
 -- ready hours never fall, and none is below the clock
 unfoldable pub InTurn : ℕ → List OrderHours → Type 0
@@ -57,17 +49,17 @@ pub record GoodLoad (chambers run : ℕ) (orders : List OrderHours) (load : Plan
   pub numbered : (1 ≤ load .chamber) × (load .chamber ≤ chambers)
 
 -- two loads are of different orders, and in one chamber they do not overlap: it is never so that each starts before the other ends
-pub record Apart (lengths : Lengths) (one other : PlanLoad) : Type 0 where
+pub record Separate (lengths : Lengths) (one other : PlanLoad) : Type 0 where
   pub orders-differ : one .order ≡ other .order → ⊥
   pub never-overlap : one .chamber ≡ other .chamber → one .start < other .start + lengths .hold → other .start < one .start + lengths .hold → ⊥
 
--- a load is apart from each of several
-unfoldable pub ApartFrom : Lengths → PlanLoad → List PlanLoad → Type 0
-ApartFrom lengths load [] = Unit {0}
-ApartFrom lengths load (other ∷ loads) = Apart lengths load other × ApartFrom lengths load loads
+-- a load is separate from each of several
+unfoldable pub SeparateFrom : Lengths → PlanLoad → List PlanLoad → Type 0
+SeparateFrom lengths load [] = Unit {0}
+SeparateFrom lengths load (other ∷ loads) = Separate lengths load other × SeparateFrom lengths load loads
 
--- a good plan: each load is good, and apart from every other
+-- a good plan: each load is good, and separate from every other
 unfoldable pub GoodPlan : ℕ → Lengths → List OrderHours → List PlanLoad → Type 0
 GoodPlan chambers lengths orders [] = Unit {0}
 GoodPlan chambers lengths orders (load ∷ loads) =
-    GoodLoad chambers (lengths .run) orders load × ApartFrom lengths load loads × GoodPlan chambers lengths orders loads
+    GoodLoad chambers (lengths .run) orders load × SeparateFrom lengths load loads × GoodPlan chambers lengths orders loads

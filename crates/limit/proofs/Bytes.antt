@@ -21,7 +21,8 @@ use Rattle.orders.proofs.Promises.{clean-exactly}
 use Rattle.plans.specs.Judging.{judged}
 use Rattle.plans.specs.Meaning.{Obeys}
 use Rattle.plans.proofs.Promises.{right-exactly}
-use Rattle.bound.specs.Plans.{keptOf}
+use Rattle.bound.specs.Keeping.{keptOf}
+use Rattle.bound.proofs.Keeping.{kept-exactly}
 use Rattle.bound.proofs.Limit.{limit}
 use Rattle.limit.proofs.Numbers.{asOrder, asPlanLoad, lengthsOf}
 use Rattle.limit.proofs.Kept.{yeses-are-kept}
@@ -56,9 +57,11 @@ module _ (list plan : List ℕ) (obeys : Obeys list plan) where
       ((listBook .chambers + 1) ^ listBook .chambers - listBook .chambers ^ listBook .chambers) * length (linesOf plan)
       ≤ (listBook .chambers + 1) ^ listBook .chambers * yeses (answersFrom listBook (orderLines list))
   obeying-limit =
-      rw (loads-counted, yeses-counted)
-      (limit (listBook .chambers) (lengthsOf listBook) (map asOrder (obeys .orders)) (map asPlanLoad (obeys .loads))
-      (in-turn (obeys .orders) (obeys .clean .ordered .in-turn)) (good-plan (obeys .heading) (obeys .orders) (obeys .lines) (obeys .loads) (obeys .good)))
+      rw loads-counted
+      (limit (listBook .chambers) (yeses (answersFrom listBook (orderLines list))) (lengthsOf listBook) (map asOrder (obeys .orders))
+      (map asPlanLoad (obeys .loads)) (in-turn (obeys .orders) (obeys .clean .ordered .in-turn))
+      (good-plan (obeys .heading) (obeys .orders) (obeys .lines) (obeys .loads) (obeys .good))
+      (kept-exactly (lengthsOf listBook) (replicate (listBook .chambers) 0) (map asOrder (obeys .orders)) _ .1 yeses-counted))
 
 -- the limit, for every clean list and every plan that the checker judges right
 pub limit-on-bytes :

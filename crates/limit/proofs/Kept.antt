@@ -15,7 +15,7 @@ use Rattle.choice.specs.declared.Choice.the-variants.{Nothing, Chamber}
 use Rattle.choice.proofs.Fitting.{Chosen, chosen}
 use Rattle.book.proofs.Deciding.{passed}
 use Rattle.orders.specs.Answers.{answersFrom, refusalsIn, refusals, yesesIn, yeses}
-use Rattle.bound.specs.Plans.{choiceOf, freeAfter, keptBy, keptOf}
+use Rattle.bound.specs.Keeping.{choiceOf, freeAfter, keptBy, keptOf}
 use Rattle.limit.proofs.Numbers.{asOrder, lengthsOf, freeOf}
 
 -- what is answered by no refusal has no refusal's number

@@ -13,8 +13,7 @@ use Rattle.lines.proofs.Promises.{load-reads, load-ranges}
 use Rattle.orders.specs.Meaning.{EachReads, none-left, one-more, Each, EachTwo}
 use Rattle.plans.specs.Meaning.{InTime, holdOf, Apart, GoodLoads}
 use Rattle.orders.proofs.Each.{each-first, each-rest, two-first, two-rest}
-use Rattle.bound.specs.Plans.{KeepsTo, ApartFrom, GoodPlan}
-use Rattle.bound.specs.Plans as bound
+use Rattle.bound.specs.Plans.{KeepsTo, Separate, SeparateFrom, GoodPlan}
 use Rattle.limit.proofs.Numbers.{asOrder, asPlanLoad, lengthsOf}
 use Rattle.orders.specs.Answers.{bookFor}
 
@@ -34,24 +33,24 @@ module _ (heading : Heading) (orders : List Order) where
       let place : load .order - firstOrderLine ≡ length (named .front) = omega arith in
       rw (named .among, place) (keeps-at-its-place (heading .run) (named .front) (in-time .order) (named .rest) (load .start) (in-time .not-early) (in-time .not-late))
 
-  -- two loads that are apart by their lines are apart by their orders' places
-  both-apart :
+  -- two loads that are apart by their lines are separate by their orders' places
+  both-separate :
       (one other : Load) → InTime (heading .run) orders one → InTime (heading .run) orders other → Apart (holdOf heading) one other
-      → bound.Apart (lengthsOf (bookFor heading)) (asPlanLoad one) (asPlanLoad other)
-  both-apart one other in-time also apart = record {
+      → Separate (lengthsOf (bookFor heading)) (asPlanLoad one) (asPlanLoad other)
+  both-separate one other in-time also apart = record {
     orders-differ = λ same. apart .orders-differ (omega arith);
     never-overlap = λ together one-first other-first.
         apart .never-overlap (record { together = together; one-first = one-first; other-first = other-first });
   }
 
   -- so is one that is apart from each of several
-  apart-from :
+  separate-from :
       (one : Load) (loads : List Load) → InTime (heading .run) orders one → Each (InTime (heading .run) orders) loads → Each (Apart (holdOf heading) one) loads
-      → ApartFrom (lengthsOf (bookFor heading)) (asPlanLoad one) (map asPlanLoad loads)
-  unfolding ApartFrom
-  apart-from one [] in-time each apart = tt
-  apart-from one (other ∷ loads) in-time each apart =
-      (both-apart one other in-time (each-first each) (each-first apart), apart-from one loads in-time (each-rest each) (each-rest apart))
+      → SeparateFrom (lengthsOf (bookFor heading)) (asPlanLoad one) (map asPlanLoad loads)
+  unfolding SeparateFrom
+  separate-from one [] in-time each apart = tt
+  separate-from one (other ∷ loads) in-time each apart =
+      (both-separate one other in-time (each-first each) (each-first apart), separate-from one loads in-time (each-rest each) (each-rest apart))
 
   -- loads that read, are in time and are apart are a good plan for the orders of the list
   reads-good :
@@ -64,7 +63,7 @@ module _ (heading : Heading) (orders : List Order) where
       let first = each-first in-time in
       let ranges = load-ranges (heading .chambers) line load (load-reads (heading .chambers) line load .1 read) in (
         record { keeps = keeps-to load first; numbered = (ranges .1, ranges .2) },
-        apart-from load loads first (each-rest in-time) (two-first apart),
+        separate-from load loads first (each-rest in-time) (two-first apart),
         reads-good others (each-rest in-time) (two-rest apart),
       )
 
