@@ -3,7 +3,7 @@
 ghost use mathlib.Core.Path.{_≡_};
 ghost use mathlib.Core.Bool.{false};
 ghost use Prim.Native.Nat.{_<_};
-ghost use Rattle.replies.specs.Filling.{leftOf};
+ghost use Rattle.replies.specs.Steps.{leftOf};
 use crate::case_text;
 use crate::case_text::TextRead;
 use crate::results;

@@ -3,7 +3,7 @@
 ghost use mathlib.Core.Path.{_≡_};
 ghost use mathlib.Core.Bool.{true, false};
 ghost use Prim.Native.Nat.{_<_};
-ghost use Rattle.replies.specs.Filling.{leftOf};
+ghost use Rattle.replies.specs.Steps.{leftOf};
 use ground::LONGEST_TEXT;
 use replies::Reply;
 

@@ -17,7 +17,8 @@ use Rattle.writer.specs.Writing.{asLength}
 use Rattle.writer.specs.Line.{lineRoom}
 use Rattle.writer.specs.declared.Written.{Written}
 use Rattle.orders.proofs.Places.{moves-on}
-use Rattle.replies.specs.Filling.{bytesIn, countIn, lineDue, pastLineDue, Put, LineBehind, goesOn, ahead, fillingUpTo, filling, Fills, leftOf}
+use Rattle.replies.specs.Filling.{bytesIn, lineDue, pastLineDue, goesOn, ahead, fillingUpTo, filling, Fills}
+use Rattle.replies.specs.Steps.{countIn, Put, LineBehind, leftOf}
 use Rattle.replies.specs.declared.Reply.{Reply}
 use Rattle.replies.specs.declared.Filled.{Filled}
 

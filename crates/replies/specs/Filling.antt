@@ -1,9 +1,9 @@
 -- A buffer filled with the lines of a reply, as many whole ones as it has room for, and how far the reply has come then. Assumes nothing.
-use Prim.Native.Nat.{ℕ, zero, suc, _+_, _-_, _≤_}
+use Prim.Native.Nat.{ℕ, zero, suc, _-_, _≤_}
 use mathlib.Core.Path.{_≡_}
 use mathlib.Core.Bool.{Bool, true, false, not, cond, _&&_}
 use mathlib.Core.List.{List, [], _++_}
-use lib.ListN.{length, take, drop}
+use lib.ListN.{length}
 use lib.Dec.{leb, ltb, eqb}
 use Rattle.ground.specs.Refusal.{Read, wrong, right}
 use Rattle.ground.specs.Buffer.{onto}
@@ -23,11 +23,6 @@ use Rattle.replies.specs.declared.Filled.{Filled}
 abbrev pub bytesIn : Read (List ℕ) → List ℕ
 bytesIn (wrong number) = []
 bytesIn (right line) = line
-
--- how many bytes a writing wrote
-abbrev pub countIn : Read ℕ → ℕ
-countIn (wrong number) = 0
-countIn (right count) = count
 
 -- the reply to a list that was begun, and so to a text, of which no line is written yet
 abbrev pub replyFrom : Begun → Reply
@@ -59,20 +54,6 @@ lineDue text reply =
 unfoldable pub pastLineDue : List ℕ → Reply → Reply
 pastLineDue text reply = cond (eqb (reply .refusal) 0) (cond (ltb (reply .progress .at) (length text)) (stepped text reply) (finished reply)) (finished reply)
 
--- a line that was put to the front of a buffer, and the reply past it
-pub record Put (line : Read (List ℕ)) (past : Reply) (buffer : List ℕ) (filled : Filled) (held : List ℕ) : Type 0 where
-  pub counted : filled .length ≡ length (bytesIn line)
-  pub comes : filled .reply ≡ past
-  pub holds : held ≡ onto (bytesIn line) buffer
-  pub fits : length (bytesIn line) ≤ lineRoom
-
--- a line that was put behind those that a buffer is filled with
-pub record LineBehind (text : List ℕ) (filled : Filled) (buffer : List ℕ) (next : Filled) (held : List ℕ) : Type 0 where
-  pub counted : next .length ≡ filled .length + length (bytesIn (lineDue text (filled .reply)))
-  pub comes : next .reply ≡ pastLineDue text (filled .reply)
-  pub holds : held ≡ take (filled .length) buffer ++ onto (bytesIn (lineDue text (filled .reply))) (drop (filled .length) buffer)
-  pub fits : length (bytesIn (lineDue text (filled .reply))) ≤ lineRoom
-
 -- a line is left, and there is room for any line
 abbrev pub goesOn : Reply → ℕ → Bool
 goesOn reply room = not (reply .over) && leb lineRoom room
@@ -100,7 +81,3 @@ pub record Fills (text : List ℕ) (reply : Reply) (buffer : List ℕ) (filled :
   pub full : goesOn (filled .reply) (length buffer - filled .length) ≡ false
   pub comes : filled .reply ≡ filling text reply (length buffer) .1
   pub holds : held ≡ onto (filling text reply (length buffer) .0) buffer
-
--- how many lines are left at most: none of a reply that is over, else one for each byte of the list from its place on, and the sum
-unfoldable pub leftOf : List ℕ → Reply → ℕ
-leftOf text reply = cond (reply .over) 0 (suc (length text - reply .progress .at))

@@ -1,7 +1,7 @@
 -- `print_reply` ends: fewer lines are left at each turn.
 use borrow.Author.Tests.{not-true}
 use borrow.Author.Needs.{needs}
-use Rattle.replies.specs.Filling.{leftOf}
+use Rattle.replies.specs.Steps.{leftOf}
 use Rattle.desk.proofs.print_reply.Statement.{statement}
 use Rattle.desk.proofs.print_reply.Tie as tie
 

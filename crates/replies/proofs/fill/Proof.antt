@@ -3,7 +3,7 @@ use Prim.Native.Nat.{_-_}
 use lib.ListN.{length}
 use mathlib.Core.Path.{sym, _∙_}
 use native.Mathlib.Omega.{arith}
-use Rattle.replies.specs.Filling.{leftOf}
+use Rattle.replies.specs.Steps.{leftOf}
 use Rattle.replies.proofs.Filling.{Filling, falls, is-on, nothing-filled, held-length, line-more, filled-up}
 use Rattle.replies.proofs.fill.Statement.{statement}
 use Rattle.replies.proofs.fill.Tie as tie

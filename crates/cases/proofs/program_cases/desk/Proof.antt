@@ -1,7 +1,7 @@
 -- `desk` ends: fewer lines are left at each turn.
 use borrow.Author.Tests.{not-true}
 use borrow.Author.Needs.{needs}
-use Rattle.replies.specs.Filling.{leftOf}
+use Rattle.replies.specs.Steps.{leftOf}
 use Rattle.cases.proofs.program_cases.desk.Statement.{statement}
 use Rattle.cases.proofs.program_cases.desk.Tie as tie
 
