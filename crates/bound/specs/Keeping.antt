@@ -26,4 +26,5 @@ keptBy (Chamber chamber start) = 1
 unfoldable pub keptOf : Lengths → List ℕ → List OrderHours → ℕ
 keptOf lengths free [] = 0
 keptOf lengths free (order ∷ orders) =
-    keptBy (choiceOf (lengths .run) free order) + keptOf lengths (freeAfter (lengths .hold) free (choiceOf (lengths .run) free order)) orders
+    keptBy (choiceOf (lengths .run) free order)
+    + keptOf lengths (freeAfter (lengths .hold) free (choiceOf (lengths .run) free order)) orders

@@ -51,7 +51,8 @@ pub record GoodLoad (chambers run : ℕ) (orders : List OrderHours) (load : Plan
 -- two loads are of different orders, and in one chamber they do not overlap: it is never so that each starts before the other ends
 pub record Separate (lengths : Lengths) (one other : PlanLoad) : Type 0 where
   pub orders-differ : one .order ≡ other .order → ⊥
-  pub never-overlap : one .chamber ≡ other .chamber → one .start < other .start + lengths .hold → other .start < one .start + lengths .hold → ⊥
+  pub never-overlap :
+      one .chamber ≡ other .chamber → one .start < other .start + lengths .hold → other .start < one .start + lengths .hold → ⊥
 
 -- a load is separate from each of several
 unfoldable pub SeparateFrom : Lengths → PlanLoad → List PlanLoad → Type 0

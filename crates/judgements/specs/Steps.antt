@@ -16,7 +16,8 @@ judgementWord (judgement.Wrong fault) = bytes "fault"
 -- the fields behind it
 abbrev pub judgementRest : Judgement → List (Read (List ℕ))
 judgementRest (judgement.Right count) = right (spelled count) ∷ []
-judgementRest (judgement.Wrong fault) = right (spelled (fault .number)) ∷ right (textWord (fault .plan)) ∷ right (spelled (fault .line)) ∷ []
+judgementRest (judgement.Wrong fault) =
+    right (spelled (fault .number)) ∷ right (textWord (fault .plan)) ∷ right (spelled (fault .line)) ∷ []
 
 -- all of them
 abbrev pub judgementPut : Judgement → List (Read (List ℕ))

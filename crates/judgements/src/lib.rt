@@ -63,7 +63,8 @@ fn put_judgement(judgement: Judgement, own: &mut [u8]) -> Written
 // Writes the line of a judgement: refusal 7 where the buffer is too short.
 pub fn write_judgement(judgement: Judgement, buffer: &mut [u8]) -> Written
     ensures { λ r. ⌜ asLength r ≡ lengthOf (fitted (now (buffer .entry)) (right (judgementLine judgement))) ⌝ }
-    ensures { λ r. ⌜ now (buffer .exit) ≡ bufferAfter (now (buffer .entry)) (fitted (now (buffer .entry)) (right (judgementLine judgement))) ⌝ }
+    ensures { λ r. ⌜ now (buffer .exit)
+        ≡ bufferAfter (now (buffer .entry)) (fitted (now (buffer .entry)) (right (judgementLine judgement))) ⌝ }
 {
     let mut own = [0u8; LINE_ROOM];
     let line = put_judgement(judgement, &mut own);
@@ -73,7 +74,8 @@ pub fn write_judgement(judgement: Judgement, buffer: &mut [u8]) -> Written
 // Writes the line of a plan judged for a list, which is what the checker prints: refusal 7 where the buffer is too short.
 pub fn write_checked(list: &[u8], plan: &[u8], buffer: &mut [u8]) -> Written
     ensures { λ r. ⌜ asLength r ≡ lengthOf (fitted (now (buffer .entry)) (right (checkedLine (now (list .entry)) (now (plan .entry))))) ⌝ }
-    ensures { λ r. ⌜ now (buffer .exit) ≡ bufferAfter (now (buffer .entry)) (fitted (now (buffer .entry)) (right (checkedLine (now (list .entry)) (now (plan .entry))))) ⌝ }
+    ensures { λ r. ⌜ now (buffer .exit)
+        ≡ bufferAfter (now (buffer .entry)) (fitted (now (buffer .entry)) (right (checkedLine (now (list .entry)) (now (plan .entry))))) ⌝ }
 {
     let judgement = judge(list, plan);
     write_judgement(judgement, buffer)

@@ -47,12 +47,14 @@ stepDue text progress = replyWritten (progress .line) (answerOf (decision (progr
 unfoldable pub lineDue : List ℕ → Reply → Read (List ℕ)
 lineDue text reply =
     cond (eqb (reply .refusal) 0)
-    (cond (ltb (reply .progress .at) (length text)) (stepDue text (reply .progress)) (right (sumLine (reply .progress .book .taken) (reply .progress .book .kept))))
+    (cond (ltb (reply .progress .at) (length text)) (stepDue text (reply .progress))
+    (right (sumLine (reply .progress .book .taken) (reply .progress .book .kept))))
     (replyWritten (reply .progress .line) (Refused (reply .refusal)))
 
 -- the reply past it: "A bad first line prints `1→bad→N` and nothing more", and the sum is the last line
 unfoldable pub pastLineDue : List ℕ → Reply → Reply
-pastLineDue text reply = cond (eqb (reply .refusal) 0) (cond (ltb (reply .progress .at) (length text)) (stepped text reply) (finished reply)) (finished reply)
+pastLineDue text reply =
+    cond (eqb (reply .refusal) 0) (cond (ltb (reply .progress .at) (length text)) (stepped text reply) (finished reply)) (finished reply)
 
 -- a line is left, and there is room for any line
 abbrev pub goesOn : Reply → ℕ → Bool

@@ -48,4 +48,5 @@ pub data WrittenOut (Fill : Reply → List ℕ → Filled → List ℕ → Type 
   nothing-more : (reply : Reply) → WrittenOut Fill reply [] reply
   a-piece :
       (reply last : Reply) (buffer held : List ℕ) (filled : Filled) (pieces : List (List ℕ)) → reply .over ≡ false → 48 ≤ length buffer
-      → Fill reply buffer filled held → WrittenOut Fill (filled .reply) pieces last → WrittenOut Fill reply (take (filled .length) held ∷ pieces) last
+      → Fill reply buffer filled held → WrittenOut Fill (filled .reply) pieces last
+      → WrittenOut Fill reply (take (filled .length) held ∷ pieces) last

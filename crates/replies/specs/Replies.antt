@@ -38,7 +38,8 @@ numbered line (answer ∷ answers) = replyLine line answer ∷ numbered (suc lin
 
 -- the replies to order lines counted from a number on, and then the sum
 unfoldable pub repliesFrom : ℕ → Book → List (List ℕ) → List (List ℕ)
-repliesFrom line book lines = numbered line (answersFrom book lines) ++ sumLine (bookAfter book lines .taken) (bookAfter book lines .kept) ∷ []
+repliesFrom line book lines =
+    numbered line (answersFrom book lines) ++ sumLine (bookAfter book lines .taken) (bookAfter book lines .kept) ∷ []
 
 -- the lines of a whole reply; "A bad first line prints `1→bad→N` and nothing more"
 abbrev pub repliesBy : List ℕ → Read Book → List (List ℕ)

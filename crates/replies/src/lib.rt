@@ -143,7 +143,8 @@ fn filled_by(written: Written, reply: Reply) -> Filled
 // Puts the one line of a list that does not begin to the front of a buffer.
 fn put_refusal(reply: Reply, buffer: &mut [u8]) -> Filled
     requires { ⌜ lineRoom ≤ length (now buffer) ⌝ }
-    ensures { λ r. ⌜ Put (replyWritten (reply .progress .line) (Answer.Refused (reply .refusal))) (finished reply) (now (buffer .entry)) r (now (buffer .exit)) ⌝ }
+    ensures { λ r. ⌜ Put (replyWritten (reply .progress .line) (Answer.Refused (reply .refusal)))
+        (finished reply) (now (buffer .entry)) r (now (buffer .exit)) ⌝ }
 {
     let progress = reply.progress;
     let written = write_answer(progress.line, Answer::Refused(reply.refusal), buffer);
@@ -153,7 +154,8 @@ fn put_refusal(reply: Reply, buffer: &mut [u8]) -> Filled
 // Puts the reply to the line at the place of a reply.
 fn put_step(text: &[u8], reply: Reply, buffer: &mut [u8]) -> Filled
     requires { ⌜ lineRoom ≤ length (now buffer) ⌝ }
-    ensures { λ r. ⌜ Put (stepDue (now (text .entry)) (reply .progress)) (stepped (now (text .entry)) reply) (now (buffer .entry)) r (now (buffer .exit)) ⌝ }
+    ensures { λ r. ⌜ Put (stepDue (now (text .entry)) (reply .progress)) (stepped (now (text .entry)) reply)
+        (now (buffer .entry)) r (now (buffer .exit)) ⌝ }
 {
     let progress = reply.progress;
     let step = orders::next(text, progress);
@@ -171,7 +173,8 @@ fn put_step(text: &[u8], reply: Reply, buffer: &mut [u8]) -> Filled
 // Puts the sum, behind which no line is left.
 fn put_last(reply: Reply, buffer: &mut [u8]) -> Filled
     requires { ⌜ lineRoom ≤ length (now buffer) ⌝ }
-    ensures { λ r. ⌜ Put (right (sumLine (reply .progress .book .taken) (reply .progress .book .kept))) (finished reply) (now (buffer .entry)) r (now (buffer .exit)) ⌝ }
+    ensures { λ r. ⌜ Put (right (sumLine (reply .progress .book .taken) (reply .progress .book .kept)))
+        (finished reply) (now (buffer .entry)) r (now (buffer .exit)) ⌝ }
 {
     let progress = reply.progress;
     let book = progress.book;
@@ -182,7 +185,8 @@ fn put_last(reply: Reply, buffer: &mut [u8]) -> Filled
 // Puts the next line of a reply: that of its refusal, else one for the line at its place, else the sum.
 fn put_next(text: &[u8], reply: Reply, buffer: &mut [u8]) -> Filled
     requires { ⌜ lineRoom ≤ length (now buffer) ⌝ }
-    ensures { λ r. ⌜ Put (lineDue (now (text .entry)) reply) (pastLineDue (now (text .entry)) reply) (now (buffer .entry)) r (now (buffer .exit)) ⌝ }
+    ensures { λ r. ⌜ Put (lineDue (now (text .entry)) reply) (pastLineDue (now (text .entry)) reply)
+        (now (buffer .entry)) r (now (buffer .exit)) ⌝ }
 {
     if reply.refusal != 0 {
         return put_refusal(reply, buffer);
