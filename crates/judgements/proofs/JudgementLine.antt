@@ -50,6 +50,7 @@ spelled-so number = spelled-exactly number (spelled number) .0 refl
 
 -- the word for a text at fault, and no other
 text-named : (in-plan : Bool) (word : List ℕ) → (word ≡ textWord in-plan) ↔ TextNamed in-plan word
+unfolding bytes
 text-named true word = (λ same. record { as-plan = λ so. same; as-orders = λ so. absurd (never-both refl so) }, λ named. named .as-plan refl)
 text-named false word = (λ same. record { as-plan = λ so. absurd (never-both so refl); as-orders = λ so. same }, λ named. named .as-orders refl)
 
@@ -65,7 +66,7 @@ fault-clean number false at = both (clean-number number) (both (clean-number at)
 
 -- the line of right with a number, and no other
 pub right-line : (count : ℕ) (line : List ℕ) → (line ≡ outcomeLine (right count)) ↔ RightLine count line
-unfolding outcomeLine
+unfolding outcomeLine bytes
 right-line count line = (
   λ same. record { digits = spelled count; splits = rw same (line-splits (bytes "right") (spelled count ∷ []) (right-clean count)); counted = spelled-so count },
   λ meant. rw (sym (spelled-exactly count (meant .digits) .1 (meant .counted))) (meant .splits .joined),
@@ -73,7 +74,7 @@ right-line count line = (
 
 -- the line of a fault, and no other
 pub fault-line : (fault : Fault) (line : List ℕ) → (line ≡ outcomeLine (wrong fault)) ↔ FaultLine (fault .number) (fault .plan) (fault .line) line
-unfolding outcomeLine
+unfolding outcomeLine bytes
 fault-line fault line = (
   λ same.
       record {
@@ -106,7 +107,6 @@ one-number same p q = sym (p .worth) ∙ ap valueOf same ∙ q .worth
 
 -- a word names one text
 one-text : (in-plan other : Bool) {word : List ℕ} → TextNamed in-plan word → TextNamed other word → in-plan ≡ other
-unfolding bytes
 one-text true true p q = refl
 one-text true false p q = absurd (omega (arith, ap length (sym (p .as-plan refl) ∙ q .as-orders refl)))
 one-text false true p q = absurd (omega (arith, ap length (sym (p .as-orders refl) ∙ q .as-plan refl)))
