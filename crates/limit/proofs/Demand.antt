@@ -101,11 +101,11 @@ module _ (list : List ℕ) (heading : Heading) (orders : List Order) (clean : Cl
   abbrev answers : List Answer
   answers = answersFrom (bookFor heading) (orderLines list)
 
-  -- 3a over what is written: each yes is accepted, with the number of its order's line, to whatever buffer of 18 bytes or more
+  -- 3a over what is written: each yes is accepted, with the number of its order's line, to whatever buffer of 14 bytes or more
   pub yes-accepted :
       (front : List Answer) (chamber start : ℕ) (rest : List Answer) → answers ≡ front ++ Yes chamber start ∷ rest
       → (buffer : RefT (List ℕ)) (answer : Written) (after : _)
-      → write-plan-line.Learnt κs (2 + length front, (chamber, (start, (buffer, tt)))) answer after → 18 ≤ length (now buffer)
+      → write-plan-line.Learnt κs (2 + length front, (chamber, (start, (buffer, tt)))) answer after → 14 ≤ length (now buffer)
       → (count : ℕ) × (answer ≡ Length count)
   yes-accepted front chamber start rest among buffer answer after learnt room =
       let range = printed.yes-in-range list heading orders clean front chamber start rest among in

@@ -82,9 +82,9 @@ loads-read {count} (load ∷ loads) each =
     let later = loads-read loads (each-rest each) in
     λ i. here i ∷ later i
 
--- a plan line's most bytes: two numbers of four digits, an hour of four digits, comma and two digits, two tabs and the end
+-- a plan line's most bytes: an order line of three digits, a chamber of one, an hour of seven bytes, two tabs and the end
 abbrev pub longestLine : ℕ
-longestLine = 18
+longestLine = 14
 
 -- no plan line has more
 pub line-short : {order chamber start : ℕ} → InRange order chamber start → length (planText order chamber start) ≤ longestLine
@@ -93,8 +93,8 @@ line-short {order} {chamber} {start} range =
     simp length-append
     (omega (
       arith,
-      spelled-most 3 order (omega arith),
-      spelled-most 3 chamber (omega arith),
+      spelled-most 2 order (omega arith),
+      spelled-most 0 chamber (omega arith),
       length-of-text comma start,
       spelled-most 3 (start / 100) (omega arith),
     ))
