@@ -15,14 +15,14 @@ fn main() {
     let list_file = open_named(1);
     let list_length = io::read_full(list_file, &mut list);
     if !was_read(list_file) {
-        io::write_all(1, b"unread\torders\n");
+        print(b"unread\torders\n");
         return;
     }
     let mut plan = [0u8; ROOM];
     let plan_file = open_named(2);
     let plan_length = io::read_full(plan_file, &mut plan);
     if !was_read(plan_file) {
-        io::write_all(1, b"unread\tplan\n");
+        print(b"unread\tplan\n");
         return;
     }
     print_judgement(&list[..list_length], &plan[..plan_length]);
@@ -44,11 +44,16 @@ fn was_read(file: i32) -> bool {
     0 <= libc::read(file, &mut byte)
 }
 
-// The judgement of a plan for a list; a line that cannot be written out is told on standard error.
+// The judgement of a plan for a list.
 fn print_judgement(list: &[u8], plan: &[u8]) {
     let mut buffer = [0u8; LINE_ROOM];
     let written = write_checked(list, plan, &mut buffer);
-    if !io::write_all(1, text_in(written, &buffer)) {
-        io::write_all(2, b"checker: the judgement could not be written\n");
+    print(text_in(written, &buffer));
+}
+
+// A line that cannot be written out is told on standard error.
+fn print(line: &[u8]) {
+    if !io::write_all(1, line) {
+        io::write_all(2, b"checker: the answer could not be written\n");
     }
 }
