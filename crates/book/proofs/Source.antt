@@ -9,7 +9,8 @@ use lib.Dec.{ltb, eqb}
 use native.Mathlib.Omega.{arith}
 use borrow.Author.Tests.{ltb-true, ltb-false, eqb-true, eqb-false}
 use Rattle.ground.proofs.Tests.{by-test}
-use Rattle.book.specs.Meaning.{Sized, Fresh, Admitted, BestChamber, NoChamber, AfterYes, RightAnswer}
+use Rattle.book.specs.Meaning.{Fresh, Admitted, BestChamber, NoChamber, AfterYes, RightAnswer}
+use Rattle.book.specs.Settling.{Sized}
 use Rattle.book.specs.History.{GivenOrder, OneAfterAnother, lastBook, KeptLoad, loadKept, loadsKept, During, Runs, NoneFrom, Completes, BusyUntil, Feasible, SourceRejects, LowestSourceChoice}
 use Rattle.book.specs.declared.Book.{Book}
 use Rattle.book.specs.declared.Answer.{Answer}

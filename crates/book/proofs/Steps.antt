@@ -10,7 +10,8 @@ use borrow.Author.Tests.{eqb-true, eqb-false}
 use Rattle.ground.specs.Refusal.{Read, wrong, right}
 use Rattle.ground.proofs.Tests.{by-test}
 use Rattle.book.specs.Taking.{decided, nextBook, answerOf}
-use Rattle.book.specs.Meaning.{Sized, Sound, Admitted, BestChamber, NoChamber, AfterYes, AfterNo, RightAnswer}
+use Rattle.book.specs.Meaning.{Sound, Admitted, BestChamber, NoChamber, AfterYes, AfterNo, RightAnswer}
+use Rattle.book.specs.Settling.{Sized}
 use Rattle.book.specs.declared.Book.{Book}
 use Rattle.book.specs.declared.Answer.{Answer}
 use Rattle.book.specs.declared.Answer.the-variants.{Yes, No, Refused}

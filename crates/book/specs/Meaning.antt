@@ -8,10 +8,6 @@ use Rattle.book.specs.declared.Book.{Book}
 use Rattle.book.specs.declared.Answer.{Answer}
 use Rattle.book.specs.declared.Answer.the-variants.{Yes, No, Refused}
 
--- "the free hours of eight chambers"
-abbrev pub Sized : Book → Type 0
-Sized book = length (book .free) ≡ 8
-
 -- "A book is sound when chambers are 1 to 8, run 1 to 9,999, clock and free hours at most 999,999, kept at most taken, taken at most 512,
 -- and chambers above the count have free hour 0."
 pub record Sound (book : Book) : Type 0 where

@@ -1,10 +1,10 @@
 -- Laws of the scan that cuts a line, byte after byte, and of the part between two places of a cut. Assumes nothing.
 use Prim.Native.Nat.{ℕ, suc, _+_, _-_, _≤_, _<_}
-use mathlib.Core.Path.{_≡_, refl, ap, _∙_}
-use mathlib.Core.Bool.{true, false, cond}
+use mathlib.Core.Path.{_≡_, refl, sym, ap, _∙_}
+use mathlib.Core.Bool.{Bool, true, false, cond}
 use mathlib.Core.List.{List, [], _∷_}
 use lib.ListN.{length, getD, take, drop, length-drop, drop-of-length-le}
-use lib.Seq.{drop-cons, drop-drop, getD-drop, length-take-le}
+use lib.Seq.{drop-cons, drop-drop, length-take-le}
 use lib.Dec.{eqb}
 use native.Mathlib.Numerals.{add-one}
 use native.Mathlib.Omega.{arith}
@@ -12,47 +12,51 @@ use borrow.Author.Tests.{eqb-true, eqb-false, le-leb}
 use Rattle.ground.proofs.Tests.{by-test}
 use Rattle.ground.specs.Range.{within}
 use Rattle.ground.proofs.Range.{within-low, within-high, outside-exactly}
-use Rattle.classes.specs.Classes.{comma, classOf}
-use Rattle.texts.specs.Lines.{before}
-use Rattle.fields.specs.Fields.{isNone, isEnded, fieldsOf}
-use Rattle.fields.specs.Cutting.{noCut, inField, endsLine, ended, cutFrom, fieldLength, endOf, startOf, lies, fieldAt, fieldStart}
+use Rattle.classes.specs.Classes.{comma, isDigit, classOf}
+use Rattle.classes.specs.declared.Class.{Class}
+use Rattle.texts.specs.Lines.{lineEnd, before}
+use Rattle.fields.specs.Fields.{tab, isNone, isEnded, fieldsOf}
+use Rattle.fields.specs.Cutting.{noCut, inField, endsLine, oneFieldMore, cutFrom, fieldLength, endOf, startOf, lies, fieldAt, fieldStart}
 use Rattle.fields.specs.declared.Cut.{Cut}
-use Rattle.fields.proofs.Splitting.{Seen, a-tab, an-end, another, seen, some-field, fields-at-tab, fields-at-end, fields-at-other}
+use Rattle.fields.proofs.Splits.{splits-ended}
 
--- where fields end that stand one behind the other, the first from a place on
-unfoldable pub endsFrom : ℕ → List (List ℕ) → List ℕ
-endsFrom at [] = []
-endsFrom at (field ∷ fields) = (at + length field) ∷ endsFrom (suc (at + length field)) fields
+-- what is found with these fields too, which stand one behind the other, the first from a place on
+unfoldable pub withFields : Cut → ℕ → List (List ℕ) → Cut
+withFields found at [] = found
+withFields found at (field ∷ fields) = withFields (oneFieldMore found (at + length field)) (suc (at + length field)) fields
 
--- one field more for each of these ends
-unfoldable pub allEnded : Cut → List ℕ → Cut
-allEnded found [] = found
-allEnded found (at ∷ ends) = allEnded (ended found at) ends
+-- a byte in front of the first makes it start earlier
+with-before :
+    (byte : ℕ) (found : Cut) (at : ℕ) (fields : List (List ℕ)) → 1 ≤ length fields
+    → withFields found at (before byte fields) ≡ withFields found (suc at) fields
+unfolding withFields
+with-before byte found at [] some = absurd (omega arith)
+with-before byte found at (field ∷ fields) some =
+    ap (λ (end : ℕ). withFields (oneFieldMore found end) (suc end) fields) (omega arith)
 
-ends-before : (byte at : ℕ) (fields : List (List ℕ)) → 1 ≤ length fields → endsFrom at (before byte fields) ≡ endsFrom (suc at) fields
-unfolding endsFrom
-ends-before byte at [] some = absurd (omega arith)
-ends-before byte at (field ∷ fields) some =
-    let later : at + suc (length field) ≡ suc at + length field = omega arith in rw later
+-- a byte that is neither a tab nor a line end stands in a field
+stands-in-field : (byte : ℕ) → eqb byte tab ≡ false → eqb byte lineEnd ≡ false → inField (classOf comma byte) ≡ true
+unfolding classOf
+stands-in-field byte no-tab no-end =
+    rw (no-tab, no-end)
+    (by-test (isDigit byte) (λ digit. rw digit)
+    (λ other. by-test (eqb byte comma) (λ mark. rw (other, mark)) (λ foreign. rw (other, foreign))))
 
 -- a line that ends is cut where its fields end, and no other is
 pub cut-from :
-    (line : List ℕ) (found : Cut) (at : ℕ)
-    → cutFrom found at line ≡ cond (isEnded line) (allEnded found (endsFrom at (fieldsOf line))) noCut
-unfolding cutFrom isEnded endsFrom allEnded
+    (line : List ℕ) (found : Cut) (at : ℕ) → cutFrom found at line ≡ cond (isEnded line) (withFields found at (fieldsOf line)) noCut
+unfolding cutFrom isEnded fieldsOf withFields classOf
 cut-from [] found at = refl
-cut-from (byte ∷ rest) found at = go (seen byte) (cut-from rest)
-  where
-    go :
-        Seen byte
-        → ((found : Cut) (at : ℕ) → cutFrom found at rest ≡ cond (isEnded rest) (allEnded found (endsFrom at (fieldsOf rest))) noCut)
-        → cutFrom found at (byte ∷ rest) ≡ cond (isEnded (byte ∷ rest)) (allEnded found (endsFrom at (fieldsOf (byte ∷ rest)))) noCut
-    go (a-tab here class) more =
-        let same : at + 0 ≡ at = omega arith in rw (fields-at-tab byte rest here, class, here, same) (more (ended found at) (suc at))
-    go (an-end here class) more = let same : at + 0 ≡ at = omega arith in rw (fields-at-end byte rest here, class, here, same)
-    go (another other goes class) more =
-        rw (fields-at-other byte rest other goes, ends-before byte at (fieldsOf rest) (some-field rest), class, goes)
-        (more found (suc at))
+cut-from (byte ∷ rest) found at =
+    let same : at + 0 ≡ at = omega arith in
+    by-test (eqb byte tab)
+    (λ is-tab. let here : byte ≡ tab = eqb-true _ _ is-tab in rw (here, same) (cut-from rest (oneFieldMore found at) (suc at)))
+    (λ no-tab.
+    by-test (eqb byte lineEnd) (λ is-end. let here : byte ≡ lineEnd = eqb-true _ _ is-end in rw (here, same))
+    (λ no-end.
+    rw (stands-in-field byte no-tab no-end, no-tab, no-end)
+    (cut-from rest found (suc at)
+    ∙ by-test (isEnded rest) (λ ends. rw (ends, with-before byte found at (fieldsOf rest) (splits-ended rest ends .some))) (λ goes. rw goes))))
 
 -- nothing is left exactly at the end
 none-left : (line : List ℕ) (at : ℕ) → at < length line → isNone (drop (at + 1) line) ≡ eqb (at + 1) (length line)
@@ -60,85 +64,57 @@ none-left line at inside =
     by-test (eqb (at + 1) (length line))
     (λ last. let past : length line ≤ at + 1 = omega (arith, eqb-true (at + 1) (length line) last) in rw (last, drop-of-length-le line past))
     (λ more.
-    let further : at + 1 < length line = beyond (at + 1) (length line) (omega arith) (eqb-false _ _ more) in
-    rw (more, drop-cons line (at + 1) 0 further))
-  where
-    beyond : (place end : ℕ) → place ≤ end → (place ≡ end → ⊥) → place < end
-    beyond place end most other = omega arith
+    let other : at + 1 ≡ length line → ⊥ = eqb-false _ _ more in
+    rw (more, drop-cons line (at + 1) 0 (omega arith)))
 
--- The scan from end to end.
-module _ (line : List ℕ) (found : Cut) (at : ℕ) (inside : at < length line) (outside : inField (classOf comma (getD line at 0)) ≡ false) where
-  -- behind a tab it goes on with one field more
-  pub cut-goes-on :
-      endsLine (classOf comma (getD line at 0)) ≡ false → cutFrom found at (drop at line) ≡ cutFrom (ended found at) (at + 1) (drop (at + 1) line)
-  unfolding cutFrom
-  cut-goes-on goes = rw (drop-cons line at 0 inside, outside, goes, add-one at)
+-- The bytes of a field, one by one: one that stands in it makes it longer, and one that does not ends it.
+pub field-step :
+    (line : List ℕ) (at : ℕ) → at < length line → {class : Class} → class ≡ classOf comma (getD line at 0) → {stands : Bool} → stands ≡ inField class
+    → fieldLength (drop at line) ≡ cond stands (suc (fieldLength (drop (at + 1) line))) 0
+unfolding fieldLength
+field-step line at inside classed tested = rw (tested, classed, drop-cons line at 0 inside, add-one at)
 
-  -- a line end ends it: a line that something follows has no field
-  pub cut-stops :
-      endsLine (classOf comma (getD line at 0)) ≡ true → cutFrom found at (drop at line) ≡ cond (eqb (at + 1) (length line)) (ended found at) noCut
-  unfolding cutFrom
-  cut-stops stops = rw (← none-left line at inside, drop-cons line at 0 inside, outside, stops, add-one at)
+pub field-ends : (line : List ℕ) (at : ℕ) → length line ≤ at → fieldLength (drop at line) ≡ 0
+unfolding fieldLength
+field-ends line at past = rw (drop-of-length-le line past)
+
+-- nothing of a field stands behind it, and nothing is found before its end
+past-field :
+    (bytes : List ℕ) (found : Cut) (at : ℕ)
+    → (fieldLength (drop (fieldLength bytes) bytes) ≡ 0) × (cutFrom found at bytes ≡ cutFrom found (at + fieldLength bytes) (drop (fieldLength bytes) bytes))
+unfolding cutFrom fieldLength
+past-field [] found at = (refl, refl)
+past-field (byte ∷ rest) found at =
+    by-test (inField (classOf comma byte))
+    (λ stands. let further : at + suc (fieldLength rest) ≡ suc at + fieldLength rest = omega arith in rw (stands, further) (past-field rest found (suc at)))
+    (λ stands-not. let same : at + 0 ≡ at = omega arith in rw (stands-not, same, stands-not) (refl, refl))
+
+-- the same of the field that starts at a place of a line
+pub found-from-end :
+    (line : List ℕ) (from end : ℕ) → end ≡ from + fieldLength (drop from line) → (found : Cut)
+    → (fieldLength (drop end line) ≡ 0) × (cutFrom found from (drop from line) ≡ cutFrom found end (drop end line))
+found-from-end line from end ends found = rw (ends, ← drop-drop (fieldLength (drop from line)) from line) (past-field (drop from line) found from)
+
+-- The scan from end to end: behind a tab it goes on with one field more; a line end ends it, and what something follows has no field.
+pub cut-step :
+    (line : List ℕ) (found : Cut) (at : ℕ) → at < length line → fieldLength (drop at line) ≡ 0 → {class : Class} → class ≡ classOf comma (getD line at 0)
+    → {ends : Bool} → ends ≡ endsLine class
+    → cutFrom found at (drop at line)
+    ≡ cond ends (cond (eqb (at + 1) (length line)) (oneFieldMore found at) noCut) (cutFrom (oneFieldMore found at) (at + 1) (drop (at + 1) line))
+unfolding cutFrom
+cut-step line found at inside outside classed tested =
+    by-test (inField (classOf comma (getD line at 0))) (λ stands. absurd (omega (arith, field-step line at inside refl (sym stands))))
+    (λ stands-not. rw (tested, classed, ← none-left line at inside, drop-cons line at 0 inside, stands-not, add-one at))
 
 -- a line that has not ended at the end of all bytes has none
 pub cut-unended : (line : List ℕ) (found : Cut) (at : ℕ) → length line ≤ at → cutFrom found at (drop at line) ≡ noCut
 unfolding cutFrom
 cut-unended line found at past = rw (drop-of-length-le line past)
 
--- The bytes of a field, one by one.
-module _ (line : List ℕ) (at : ℕ) (inside : at < length line) where
-  -- one that stands in it makes it longer
-  pub field-goes-on : inField (classOf comma (getD line at 0)) ≡ true → fieldLength (drop at line) ≡ suc (fieldLength (drop (at + 1) line))
-  unfolding fieldLength
-  field-goes-on stands = rw (drop-cons line at 0 inside, stands, add-one at)
-
-  -- one that does not ends it
-  pub field-stops : inField (classOf comma (getD line at 0)) ≡ false → fieldLength (drop at line) ≡ 0
-  unfolding fieldLength
-  field-stops stands-not = rw (drop-cons line at 0 inside, stands-not)
-
-pub field-ends : (line : List ℕ) (at : ℕ) → length line ≤ at → fieldLength (drop at line) ≡ 0
-unfolding fieldLength
-field-ends line at past = rw (drop-of-length-le line past)
-
--- the byte behind a field stands in none
-behind-field : (bytes : List ℕ) → fieldLength bytes < length bytes → inField (classOf comma (getD bytes (fieldLength bytes) 0)) ≡ false
-unfolding fieldLength
-behind-field [] inside = absurd (omega arith)
-behind-field (byte ∷ rest) inside =
-    by-test (inField (classOf comma byte)) (λ stands. rw stands (behind-field rest (omega (arith, rw stands at inside))))
-    (λ stands-not. rw (stands-not, stands-not))
-
--- and nothing is found before it
-past-field : (bytes : List ℕ) (found : Cut) (at : ℕ) → cutFrom found at bytes ≡ cutFrom found (at + fieldLength bytes) (drop (fieldLength bytes) bytes)
-unfolding cutFrom fieldLength
-past-field [] found at = refl
-past-field (byte ∷ rest) found at =
-    by-test (inField (classOf comma byte))
-    (λ stands. let further : at + suc (fieldLength rest) ≡ suc at + fieldLength rest = omega arith in rw (stands, further) (past-field rest found (suc at)))
-    (λ stands-not. let same : at + 0 ≡ at = omega arith in rw (stands-not, same, stands-not))
-
--- the same of the field that starts at a place of a line
-module _ (line : List ℕ) (from end : ℕ) (ends : end ≡ from + fieldLength (drop from line)) where
-  pub ends-outside : end < length line → inField (classOf comma (getD line end 0)) ≡ false
-  ends-outside inside =
-      rw (ends, ← getD-drop from line (fieldLength (drop from line)) 0) (behind-field (drop from line) (omega (arith, length-drop from line)))
-
-  pub cut-from-end : (found : Cut) → cutFrom found from (drop from line) ≡ cutFrom found end (drop end line)
-  cut-from-end found = rw (ends, ← drop-drop (fieldLength (drop from line)) from line) (past-field (drop from line) found from)
-
--- the first field starts with the line
-pub starts-first : (cut : Cut) → startOf cut 0 ≡ 0
-unfolding startOf
-starts-first cut = refl
-
--- any other starts behind the tab that ends the one before
-pub starts-next : (cut : Cut) (before : ℕ) → startOf cut (suc before) ≡ suc (endOf cut before)
-unfolding startOf
-starts-next cut before = refl
-
+-- a field but the first starts behind the tab that ends the one before
 pub starts-behind : (cut : Cut) (place : ℕ) → 1 ≤ place → startOf cut place ≡ suc (endOf cut (place - 1))
-starts-behind cut place some = let further : place ≡ suc (place - 1) = omega arith in ap (startOf cut) further ∙ starts-next cut (place - 1)
+unfolding startOf
+starts-behind cut place some = let further : place ≡ suc (place - 1) = omega arith in ap (startOf cut) further
 
 -- A part of a line between two places of a cut.
 module _ (line : List ℕ) (cut : Cut) (place : ℕ) where

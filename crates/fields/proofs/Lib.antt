@@ -1,5 +1,4 @@
 -- The laws of this room, by what they are about.
-pub mod Splitting
 pub mod Cutting
 pub mod Words
 pub mod Splits

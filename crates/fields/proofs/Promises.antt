@@ -1,16 +1,20 @@
--- What this room promises, of the contracts themselves and of the definitions that they cite. Each is a line over a law of this folder.
--- Assumes nothing.
+-- What this room promises, of the contracts themselves and of the definitions that they cite, by the laws of this folder. Assumes nothing.
 use Prim.Native.Nat.{ℕ, _+_, _≤_, _<_}
 use mathlib.Core.Path.{_≡_, refl, sym, _∙_}
-use mathlib.Core.Bool.{true}
+use mathlib.Core.Bool.{true, _&&_}
 use mathlib.Core.List.{List, []}
-use mathlib.Core.Logic.{_↔_, _⊎_}
+use mathlib.Core.Logic.{_↔_, _⊎_, inl, inr}
 use lib.ListN.{length, getD, take, drop}
+use native.Mathlib.Omega.{arith}
 use contract.Lifetimes.{Lfts}
 use denote.Ref.{RefT}
 use Rattle.ground.specs.Refusal.{wrong, right}
+use Rattle.ground.specs.Range.{within}
 use Rattle.ground.specs.Outcome.{Single}
 use Rattle.ground.proofs.Outcome.{single-value}
+use Rattle.ground.proofs.Tests.{by-test, first-of, second-of}
+use Rattle.ground.proofs.Refusal.{never-right}
+use Rattle.ground.proofs.Range.{within-from, within-low, within-high}
 use Rattle.fields.specs.Fields.{tab, isEnded, fieldsOf, sameBytes, shapeOf}
 use Rattle.fields.specs.Meaning.{Splits, HasFields}
 use Rattle.fields.specs.Cutting.{mostFields, cutOf, fieldStart}
@@ -18,8 +22,8 @@ use Rattle.fields.specs.declared.Cut.{Cut}
 use Rattle.fields.proofs.cut_line.Reads as cut-line
 use Rattle.fields.proofs.field.Reads as field
 use Rattle.fields.proofs.same_bytes.Reads as same-bytes
-use Rattle.fields.proofs.Words as words
-use Rattle.fields.proofs.Splits as splits
+use Rattle.fields.proofs.Words.{same-then, same-itself}
+use Rattle.fields.proofs.Splits.{split-fields, splits-ended}
 use Rattle.fields.proofs.Cutting as cutting
 use Rattle.fields.proofs.Found as found
 
@@ -30,23 +34,41 @@ tab-nine = refl
 pub keeps-five : mostFields ≡ 5
 keeps-five = refl
 
--- a line is ended and has these fields exactly when it splits into them, and has the
--- shape exactly when it splits into as many as are asked for
+-- a line is ended and has these fields exactly when it splits into them
 pub splits-exactly : (line : List ℕ) (fields : List (List ℕ)) → ((isEnded line ≡ true) × (fieldsOf line ≡ fields)) ↔ Splits line fields
-splits-exactly = splits.splits-exactly
+splits-exactly line fields = (λ facts. rw (facts .1) at (splits-ended line (facts .0)), split-fields)
 
+-- so it splits into fields in one way
+pub one-split : {line : List ℕ} {one other : List (List ℕ)} → Splits line one → Splits line other → one ≡ other
+one-split p q = sym (split-fields p .1) ∙ split-fields q .1
+
+-- and it has the shape exactly when it splits into as many as are asked for
 pub has-fields :
     (least most : ℕ) (line : List ℕ)
     → (shapeOf least most line ≡ right tt) ↔ ((count : ℕ) × HasFields count line × (least ≤ count) × (count ≤ most))
-has-fields = splits.has-fields
+unfolding shapeOf
+has-fields least most line = (
+  λ shaped.
+      by-test (isEnded line && within least most (length (fieldsOf line)))
+      (λ met.
+      let splits = splits-ended line (first-of (isEnded line) (within least most (length (fieldsOf line))) met) in
+      let inside = second-of (isEnded line) (within least most (length (fieldsOf line))) met in
+      (length (fieldsOf line), record { fields = fieldsOf line; splits = splits; counted = refl }, within-low least most _ inside, within-high least most _ inside))
+      (λ unmet. absurd (never-right (rw unmet at shaped))),
+  λ has.
+      let facts = split-fields (has .1 .splits) in
+      rw (facts .0, facts .1, has .1 .counted, within-from least most (has .0) (has .2) (has .3)),
+)
 
 -- 1: and is refused by that number otherwise
 pub shape-ways : (least most : ℕ) (line : List ℕ) → (shapeOf least most line ≡ right tt) ⊎ (shapeOf least most line ≡ wrong 1)
-shape-ways = splits.shape-ways
+unfolding shapeOf
+shape-ways least most line =
+    by-test (isEnded line && within least most (length (fieldsOf line))) (λ met. inl (rw met)) (λ unmet. inr (rw unmet))
 
 -- two texts are the same byte for byte exactly when they are one
 pub same-exactly : (one other : List ℕ) → (sameBytes one other ≡ true) ↔ (one ≡ other)
-same-exactly = words.same-exactly
+same-exactly one other = (same-then one other, λ same. rw same (same-itself other))
 
 -- `cut_line` counts n fields exactly when the line splits into n, and none exactly when it splits into none
 pub counts-exactly :
@@ -57,7 +79,14 @@ counts-exactly κs line cut after learnt count some = rw learnt (found.count-exa
 pub counts-none :
     (κs : Lfts 1) (line : RefT (List ℕ)) (cut : Cut) (after : _) → cut-line.Learnt κs (line, tt) cut after
     → (cut .count ≡ 0) ↔ ((count : ℕ) → HasFields count (line .now) → ⊥)
-counts-none κs line cut after learnt = rw learnt (found.none-exactly (line .now))
+counts-none κs line cut after learnt =
+    rw learnt (
+      λ none count has. omega (arith, found.cut-counts (line .now) (has .fields) (has .splits), has .splits .some),
+      λ never.
+          by-test (isEnded (line .now))
+          (λ ends. absurd (never _ (record { fields = fieldsOf (line .now); splits = splits-ended (line .now) ends; counted = refl })))
+          (λ goes. rw goes at (found.count-of (line .now))),
+    )
 
 -- of a line that was cut so and splits into fields, `field` gives the one at a place, for the first five
 pub field-exactly :
@@ -90,7 +119,7 @@ field-lies κs line cut place text after given =
 pub says-same :
     (κs : Lfts 2) (one other : RefT (List ℕ)) (same : _) (after : _) → same-bytes.Learnt κs (one, (other, tt)) same after
     → (same ≡ true) ↔ (one .now ≡ other .now)
-says-same κs one other same after learnt = rw learnt (words.same-exactly (one .now) (other .now))
+says-same κs one other same after learnt = rw learnt (same-exactly (one .now) (other .now))
 
 -- 1d: each public function's contract admits a single outcome; a field's is its bytes and the place where it lies in the line
 pub cut-line-single : (κs : Lfts 1) (line : RefT (List ℕ)) (after : _) → Single (λ cut. cut-line.Learnt κs (line, tt) cut after)

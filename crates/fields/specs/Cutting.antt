@@ -38,16 +38,18 @@ endsLine LineEnd = true
 endsLine Foreign = false
 
 -- one field more, which ends at a place
-abbrev pub ended : Cut → ℕ → Cut
-ended found at =
+abbrev pub oneFieldMore : Cut → ℕ → Cut
+oneFieldMore found at =
     record { count = found .count + 1; ends = cond (ltb (found .count) mostFields) (set (found .ends) (found .count) at) (found .ends) }
 
 -- what is found from a place on, with what was found before it: a line that does not end, or that something follows, has no field
 unfoldable pub cutFrom : Cut → ℕ → List ℕ → Cut
 cutFrom found at [] = noCut
 cutFrom found at (byte ∷ rest) =
-    let further = cond (endsLine (classOf comma byte)) (cond (isNone rest) (ended found at) noCut) (cutFrom (ended found at) (suc at) rest) in
-    cond (inField (classOf comma byte)) (cutFrom found (suc at) rest) further
+    let class = classOf comma byte in
+    let more = oneFieldMore found at in
+    let further = cond (endsLine class) (cond (isNone rest) more noCut) (cutFrom more (suc at) rest) in
+    cond (inField class) (cutFrom found (suc at) rest) further
 
 -- how many fields a line has, and where they end
 unfoldable pub cutOf : List ℕ → Cut

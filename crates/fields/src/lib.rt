@@ -6,7 +6,8 @@ ghost use Prim.Native.Nat.{_+_, _<_};
 ghost use lib.ListN.{drop};
 ghost use denote.Ref.{RefT};
 ghost use Rattle.fields.specs.Fields.{sameBytes};
-ghost use Rattle.fields.specs.Cutting.{mostCounted, noCut, inField, endsLine, ended, fieldLength, cutOf, endOf, fieldAt, fieldStart};
+ghost use Rattle.fields.specs.Cutting.{mostCounted, noCut, inField, endsLine, oneFieldMore, fieldLength};
+ghost use Rattle.fields.specs.Cutting.{cutOf, endOf, fieldAt, fieldStart};
 use classes::Class;
 
 // How many ends a cut keeps; further fields are counted only.
@@ -55,9 +56,9 @@ fn ends_line(class: Class) -> bool
 }
 
 // One field more, which ends at a place.
-fn ended(found: Cut, at: usize) -> Cut
+fn one_field_more(found: Cut, at: usize) -> Cut
     requires { ⌜ found .count < mostCounted ⌝ }
-    ensures { λ r. ⌜ r ≡ ended found at ⌝ }
+    ensures { λ r. ⌜ r ≡ oneFieldMore found at ⌝ }
 {
     let place = found.count;
     let count = place + 1;
@@ -97,7 +98,7 @@ pub fn cut_line(line: &[u8]) -> Cut
     let mut found = no_cut();
     let mut end = field_end(line, 0);
     while end < line.len() {
-        found = ended(found, end);
+        found = one_field_more(found, end);
         let next = end + 1;
         if ends_line(classes::class_of(line[end])) {
             return single(found, next == line.len());

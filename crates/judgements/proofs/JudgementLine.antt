@@ -14,8 +14,8 @@ use Rattle.ground.specs.Text.{bytes}
 use Rattle.ground.proofs.Tests.{both, never-both}
 use Rattle.ground.proofs.Refusal.{never-right}
 use Rattle.ground.proofs.Promises.{spelled-exactly}
-use Rattle.fields.specs.Meaning.{isClean, allClean, Splits}
-use Rattle.fields.proofs.Promises.{splits-exactly}
+use Rattle.fields.specs.Meaning.{isClean, allClean}
+use Rattle.fields.proofs.Promises.{one-split}
 use Rattle.writer.specs.Line.{textsOf, lineMade}
 use Rattle.writer.proofs.Promises.{line-splits}
 use Rattle.planlines.proofs.RoundTrip.{clean-number}
@@ -97,11 +97,7 @@ fault-line fault line = (
       ) (meant .splits .joined),
 )
 
--- a line splits into fields in one way
-pub one-split : {line : List ℕ} {one other : List (List ℕ)} → Splits line one → Splits line other → one ≡ other
-one-split {line} {one} {other} p q = sym (splits-exactly line one .1 p .1) ∙ splits-exactly line other .1 q .1
-
--- and digits are those of one number
+-- digits are those of one number
 one-number : {number other : ℕ} {word another : List ℕ} → word ≡ another → DigitsOf number word → DigitsOf other another → number ≡ other
 one-number same p q = sym (p .worth) ∙ ap valueOf same ∙ q .worth
 

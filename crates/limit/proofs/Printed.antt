@@ -12,6 +12,7 @@ use Rattle.ground.specs.Spelling.{AllDigits}
 use Rattle.ground.specs.Text.{bytes}
 use Rattle.ground.proofs.Refusal.{never-right, same-right, passed-by}
 use Rattle.texts.specs.Lines.{linesOf, lineAt}
+use Rattle.fields.proofs.Promises.{one-split}
 use Rattle.lines.specs.Reading.{headingOf}
 use Rattle.lines.specs.declared.Heading.{Heading}
 use Rattle.lines.specs.declared.Order.{Order}
@@ -32,7 +33,6 @@ use Rattle.plans.specs.Judging.{judged}
 use Rattle.plans.proofs.Promises.{right-exactly}
 use Rattle.judgements.specs.Judgements.{checkedLine}
 use Rattle.judgements.specs.Meaning.{RightLine}
-use Rattle.judgements.proofs.JudgementLine.{one-split}
 use Rattle.judgements.proofs.Promises.{checked-right}
 use Rattle.limit.specs.Yeses.{yesPlan}
 use Rattle.limit.specs.Meaning.{SaysBad, EndsInSum, YesesWritten, none-left, with-yes, with-no, with-refused}

@@ -14,7 +14,7 @@ use Rattle.lines.specs.Reading.{orderOf}
 use Rattle.lines.specs.declared.Order.{Order}
 use Rattle.lines.specs.declared.Load.{Load}
 use Rattle.book.specs.Taking.{hold, decided, nextBook, answerOf}
-use Rattle.book.specs.Meaning.{Sized}
+use Rattle.book.specs.Settling.{Sized}
 use Rattle.book.specs.declared.Book.{Book}
 use Rattle.choice.specs.declared.Choice.{Choice}
 use Rattle.choice.specs.declared.Choice.the-variants.{Nothing, Chamber}

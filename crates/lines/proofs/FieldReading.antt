@@ -1,122 +1,81 @@
--- Reading a field goes by what it means: it reads exactly when it is meant to, and is refused by its fault. Assumes nothing.
+-- Reading a field goes by what it means: what is meant is read, by a value or by a fault, and one of them is meant. Assumes nothing.
 use Prim.Native.Nat.{ℕ, _≤_}
-use mathlib.Core.Path.{_≡_, refl, sym, ap, _∙_}
+use mathlib.Core.Path.{_≡_, refl, sym, _∙_}
 use mathlib.Core.List.{List, [], _∷_}
-use mathlib.Core.Logic.{_↔_, _⊎_, inl, inr, ⊎-elim}
+use mathlib.Core.Logic.{_⊎_, inl, inr}
 use native.Mathlib.Omega.{arith}
-use Rattle.ground.specs.Refusal.{Read, wrong, right, _>>=_, _>>_}
+use Rattle.ground.specs.Refusal.{Read, wrong, right}
 use Rattle.ground.specs.Range.{within}
 use Rattle.ground.specs.Spelling.{valueOf}
 use Rattle.ground.specs.Text.{bytes}
-use Rattle.ground.proofs.Refusal.{never-right, same-right, same-wrong, checked-right, checked-wrong}
 use Rattle.ground.proofs.Range.{within-from, within-low, within-high, outside-exactly}
-use Rattle.ground.proofs.Tests.{never-both, not-met}
+use Rattle.ground.proofs.Tests.{by-test, never-both, not-met}
 use Rattle.classes.specs.Classes.{comma}
 use Rattle.hours.specs.Reading.{hourOf, plainOf}
 use Rattle.hours.proofs.Promises.{reads-exactly, refused-by-three, plain-exactly, refused-by-two}
 use Rattle.fields.specs.Fields.{sameBytes}
 use Rattle.fields.proofs.Promises.{same-exactly}
 use Rattle.lines.specs.Reading.{steam, steamAt, ranged, plainWithin, hourWithin}
-use Rattle.lines.specs.Meaning.{PlainReads, PlainFault, HourReads, HourFault, WordReads, WordFault, Kind, the-word, plain-within, hour-within, FieldReads, FieldFault}
+use Rattle.lines.specs.Meaning.{PlainFault, HourFault, WordFault, Kind, the-word, plain-within, hour-within, FieldReads, FieldFault}
 use Rattle.lines.specs.Meaning.PlainFault.{unread as no-plain, outside as plain-outside}
 use Rattle.lines.specs.Meaning.HourFault.{unread as no-hour, outside as hour-outside}
 use Rattle.lines.specs.Meaning.WordFault.{other as no-word}
 
--- a number that is read and held to a range reads as itself where it lies in it
-held-right :
-    (read : Read ℕ) (low high value : ℕ)
-    → ((read >>= λ number. ranged low high number) ≡ right value) ↔ ((read ≡ right value) × (low ≤ value) × (value ≤ high))
-unfolding ranged
-held-right (wrong number) low high value = (λ e. absurd (never-right e), λ p. absurd (never-right (p .0)))
-held-right (right number) low high value = (
-  λ e.
-      let p = checked-right (within low high number) 4 number value .0 e in
-      (ap right (p .1), rw (p .1) at (within-low low high number (p .0)), rw (p .1) at (within-high low high number (p .0))),
-  λ p.
-      let same : number ≡ value = same-right (p .0) in
-      checked-right (within low high number) 4 number value .1 (rw same (within-from low high value (p .1) (p .2)), same),
-)
+-- a reader goes by what is meant by a kind of field
+pub record GoesBy (reader : List ℕ → Read ℕ) (kind : Kind) : Type 0 where
+  pub reads : (text : List ℕ) (value : ℕ) → FieldReads kind text value → reader text ≡ right value
+  pub faults : (text : List ℕ) (number : ℕ) → FieldFault kind text number → reader text ≡ wrong number
+  pub meant : (text : List ℕ) → ((value : ℕ) × FieldReads kind text value) ⊎ ((number : ℕ) × FieldFault kind text number)
 
--- and is refused by its own number, or by 4 where it lies outside
-held-wrong :
-    (read : Read ℕ) (low high given : ℕ)
-    → ((read >>= λ number. ranged low high number) ≡ wrong given)
-    ↔ ((read ≡ wrong given) ⊎ ((number : ℕ) × (read ≡ right number) × ((low ≤ number) × (number ≤ high) → ⊥) × (given ≡ 4)))
-unfolding ranged
-held-wrong (wrong number) low high given =
-    (λ e. inl (ap wrong (same-wrong e)), ⊎-elim (λ e. ap wrong (same-wrong e)) (λ t. absurd (never-right (t .1))))
-held-wrong (right number) low high given = (
-  λ e.
-      let p = checked-wrong (within low high number) 4 number given .0 e in
-      inr (number, refl, outside-exactly low high number .0 (p .0), p .1),
-  ⊎-elim (λ e. absurd (never-right (sym e)))
-      (λ t.
-      let same : number ≡ t .0 = same-right (t .1) in
-      checked-wrong (within low high number) 4 number given .1 (rw same (outside-exactly low high (t .0) .1 (t .2)), t .3)),
-)
+-- a number that is read lies in its range or outside, or there is none
+held :
+    {Reads Fault : ℕ → Type 0} (low high : ℕ) (read : Read ℕ) → ((value : ℕ) → read ≡ right value → low ≤ value → value ≤ high → Reads value)
+    → ((value : ℕ) → read ≡ right value → ((low ≤ value) × (value ≤ high) → ⊥) → (number : ℕ) × Fault number)
+    → ((number : ℕ) → read ≡ wrong number → (number : ℕ) × Fault number) → ((value : ℕ) × Reads value) ⊎ ((number : ℕ) × Fault number)
+held low high (wrong number) reads out unread = inr (unread number refl)
+held low high (right value) reads out unread =
+    by-test (within low high value) (λ inside. inl (value, reads value refl (within-low low high value inside) (within-high low high value inside)))
+    (λ outside. inr (out value refl (outside-exactly low high value .0 outside)))
 
--- A number field.
-module _ (low high : ℕ) (text : List ℕ) where
-  -- it reads exactly when it is a plain number in its range, as what it is worth
-  pub plain-reads : (number : ℕ) → (plainWithin low high text ≡ right number) ↔ PlainReads low high text number
-  unfolding plainWithin
-  plain-reads number = (
-    λ e.
-        let p = held-right (plainOf text) low high number .0 e in
-        let q = plain-exactly text number .0 (p .0) in
-        record { plain = q .0; worth = q .1; least = p .1; most = p .2 },
-    λ reads. held-right (plainOf text) low high number .1 (plain-exactly text number .1 (reads .plain, reads .worth), reads .least, reads .most),
-  )
+-- A number field and an hour field.
+module _ (low high : ℕ) where
+  plain-faults : (text : List ℕ) (number : ℕ) → PlainFault low high text number → plainWithin low high text ≡ wrong number
+  unfolding plainWithin ranged
+  plain-faults text number (no-plain none) = rw (refused-by-two text 2 .1 (refl, none))
+  plain-faults text number (plain-outside plain out) =
+      rw (plain-exactly text (valueOf text) .1 (plain, refl), outside-exactly low high (valueOf text) .1 out)
 
-  -- its first fault refuses it
-  plain-fault-then : (number : ℕ) → PlainFault low high text number → plainWithin low high text ≡ wrong number
-  unfolding plainWithin
-  plain-fault-then number (no-plain none) = held-wrong (plainOf text) low high number .1 (inl (refused-by-two text number .1 (refl, none)))
-  plain-fault-then number (plain-outside plain out) =
-      held-wrong (plainOf text) low high number .1 (inr (valueOf text, plain-exactly text (valueOf text) .1 (plain, refl), out, refl))
+  pub plain-goes : GoesBy (plainWithin low high) (plain-within low high)
+  unfolding plainWithin ranged
+  plain-goes =
+      record {
+        reads = λ text value reads. rw (plain-exactly text value .1 (reads .plain, reads .worth), within-from low high value (reads .least) (reads .most));
+        faults = plain-faults;
+        meant =
+            λ text.
+            held low high (plainOf text)
+            (λ value e least most. let is = plain-exactly text value .0 e in record { plain = is .0; worth = is .1; least = least; most = most })
+            (λ value e out. let is = plain-exactly text value .0 e in (4, plain-outside (is .0) (rw (is .1) at out)))
+            (λ number e. (2, no-plain (refused-by-two text number .0 e .1)));
+      }
 
-  -- and nothing else does
-  pub plain-fault : (number : ℕ) → (plainWithin low high text ≡ wrong number) ↔ PlainFault low high text number
-  unfolding plainWithin
-  plain-fault number = (
-    λ e.
-        ⊎-elim (λ unread. let p = refused-by-two text number .0 unread in rw (p .0) (no-plain (p .1)))
-        (λ t.
-        let p = plain-exactly text (t .0) .0 (t .1) in
-        rw (t .3) (plain-outside (p .0) (rw (p .1) at (t .2))))
-        (held-wrong (plainOf text) low high number .0 e),
-    plain-fault-then number,
-  )
+  hour-faults : (text : List ℕ) (number : ℕ) → HourFault low high text number → hourWithin low high text ≡ wrong number
+  unfolding hourWithin ranged
+  hour-faults text number (no-hour none) = rw (refused-by-three text 3 .1 (refl, none))
+  hour-faults text number (hour-outside hour spells out) = rw (reads-exactly text hour .1 spells, outside-exactly low high hour .1 out)
 
--- An hour field.
-module _ (low high : ℕ) (text : List ℕ) where
-  -- it reads exactly as the hour that it spells, where that is in its range
-  pub hour-reads : (hour : ℕ) → (hourWithin low high text ≡ right hour) ↔ HourReads low high text hour
-  unfolding hourWithin
-  hour-reads hour = (
-    λ e.
-        let p = held-right (hourOf comma text) low high hour .0 e in
-        record { spells = reads-exactly text hour .0 (p .0); least = p .1; most = p .2 },
-    λ reads. held-right (hourOf comma text) low high hour .1 (reads-exactly text hour .1 (reads .spells), reads .least, reads .most),
-  )
-
-  -- its first fault refuses it
-  hour-fault-then : (number : ℕ) → HourFault low high text number → hourWithin low high text ≡ wrong number
-  unfolding hourWithin
-  hour-fault-then number (no-hour none) = held-wrong (hourOf comma text) low high number .1 (inl (refused-by-three text number .1 (refl, none)))
-  hour-fault-then number (hour-outside hour spells out) =
-      held-wrong (hourOf comma text) low high number .1 (inr (hour, reads-exactly text hour .1 spells, out, refl))
-
-  -- and nothing else does
-  pub hour-fault : (number : ℕ) → (hourWithin low high text ≡ wrong number) ↔ HourFault low high text number
-  unfolding hourWithin
-  hour-fault number = (
-    λ e.
-        ⊎-elim (λ unread. let p = refused-by-three text number .0 unread in rw (p .0) (no-hour (p .1)))
-        (λ t. rw (t .3) (hour-outside (t .0) (reads-exactly text (t .0) .0 (t .1)) (t .2)))
-        (held-wrong (hourOf comma text) low high number .0 e),
-    hour-fault-then number,
-  )
+  pub hour-goes : GoesBy (hourWithin low high) (hour-within low high)
+  unfolding hourWithin ranged
+  hour-goes =
+      record {
+        reads = λ text hour reads. rw (reads-exactly text hour .1 (reads .spells), within-from low high hour (reads .least) (reads .most));
+        faults = hour-faults;
+        meant =
+            λ text.
+            held low high (hourOf comma text) (λ hour e least most. record { spells = reads-exactly text hour .0 e; least = least; most = most })
+            (λ hour e out. (4, hour-outside hour (reads-exactly text hour .0 e) out))
+            (λ number e. (3, no-hour (refused-by-three text number .0 e .1)));
+      }
 
 -- the word is these five bytes
 pub steam-bytes : steam ≡ 115 ∷ 116 ∷ 101 ∷ 97 ∷ 109 ∷ []
@@ -124,47 +83,22 @@ unfolding steam bytes
 steam-bytes = refl
 
 -- The word of a first line.
-module _ (text : List ℕ) where
-  -- it reads exactly when it stands there, and then as 0
-  pub word-reads : (number : ℕ) → (steamAt text ≡ right number) ↔ WordReads text number
-  unfolding steamAt
-  word-reads number = (
-    λ e.
-        let p = checked-right (sameBytes text steam) 1 0 number .0 e in
-        record { word = same-exactly text steam .0 (p .0) ∙ steam-bytes; none = sym (p .1) },
-    λ reads. checked-right (sameBytes text steam) 1 0 number .1 (same-exactly text steam .1 (reads .word ∙ sym steam-bytes), sym (reads .none)),
-  )
-
-  -- anything else in its place is refused
-  word-fault-then : (number : ℕ) → WordFault text number → steamAt text ≡ wrong number
-  unfolding steamAt
-  word-fault-then number (no-word differs) =
-      checked-wrong {A = ℕ} (sameBytes text steam) 1 0 number .1 (not-met (λ same. differs (same-exactly text steam .0 same ∙ steam-bytes)), refl)
-
-  -- and nothing else is
-  pub word-fault : (number : ℕ) → (steamAt text ≡ wrong number) ↔ WordFault text number
-  unfolding steamAt
-  word-fault number = (
-    λ e.
-        let p = checked-wrong {A = ℕ} (sameBytes text steam) 1 0 number .0 e in
-        rw (p .1) (no-word (λ same. never-both (same-exactly text steam .1 (same ∙ sym steam-bytes)) (p .0))),
-    word-fault-then number,
-  )
-
--- a reader goes by what is meant by a kind of field
-pub record GoesBy (reader : List ℕ → Read ℕ) (kind : Kind) : Type 0 where
-  pub reads : (text : List ℕ) (value : ℕ) → (reader text ≡ right value) ↔ FieldReads kind text value
-  pub faults : (text : List ℕ) (number : ℕ) → (reader text ≡ wrong number) ↔ FieldFault kind text number
-
--- each kind of field has its reader
-pub plain-goes : (low high : ℕ) → GoesBy (plainWithin low high) (plain-within low high)
-plain-goes low high = record { reads = plain-reads low high; faults = plain-fault low high }
-
-pub hour-goes : (low high : ℕ) → GoesBy (hourWithin low high) (hour-within low high)
-hour-goes low high = record { reads = hour-reads low high; faults = hour-fault low high }
+word-faults : (text : List ℕ) (number : ℕ) → WordFault text number → steamAt text ≡ wrong number
+unfolding steamAt
+word-faults text number (no-word differs) =
+    rw (not-met {met = sameBytes text steam} (λ same. differs (same-exactly text steam .0 same ∙ steam-bytes)))
 
 pub word-goes : GoesBy steamAt the-word
-word-goes = record { reads = word-reads; faults = word-fault }
+unfolding steamAt
+word-goes =
+    record {
+      reads = λ text value reads. rw (same-exactly text steam .1 (reads .word ∙ sym steam-bytes), reads .none);
+      faults = word-faults;
+      meant =
+          λ text.
+          by-test (sameBytes text steam) (λ same. inl (0, record { word = same-exactly text steam .0 same ∙ steam-bytes; none = refl }))
+          (λ differ. inr (1, no-word (λ word. never-both (same-exactly text steam .1 (word ∙ sym steam-bytes)) differ)));
+    }
 
 -- the fault of a field has a number from 1 to 4
 pub fault-from : (kind : Kind) (text : List ℕ) {number : ℕ} → FieldFault kind text number → (1 ≤ number) × (number ≤ 4)

@@ -1,17 +1,17 @@
--- What this room promises, of the contracts themselves and of the definitions that they cite. Each is a line over a law of this folder.
--- Assumes nothing.
+-- What this room promises, of the contracts themselves and of the definitions that they cite, by the laws of this folder. Assumes nothing.
 use Prim.Native.Nat.{ℕ, _≤_}
-use mathlib.Core.Path.{_≡_, refl, sym, ap, _∙_}
+use mathlib.Core.Path.{_≡_, refl, sym, ap}
 use mathlib.Core.List.{List, [], _∷_}
-use mathlib.Core.Logic.{_↔_}
+use mathlib.Core.Logic.{_↔_, Iff·trans}
+use native.Mathlib.Omega.{arith}
 use contract.Lifetimes.{Lfts}
 use denote.Ref.{RefT}
 use Rattle.ground.specs.Refusal.{Read, wrong, right}
 use Rattle.ground.specs.Outcome.{Injective, Single}
 use Rattle.ground.proofs.Refusal.{never-right, same-right, same-wrong}
-use Rattle.ground.proofs.Outcome.{single-answer}
+use Rattle.ground.proofs.Outcome.{single-answer, answered-exactly}
 use Rattle.lines.specs.Reading.{lastGrower, steam, headingOf, orderOf, loadOf, asHeading, asOrder, asLoad}
-use Rattle.lines.specs.Meaning.{Kind, LineFault, HeadingReads, HeadingFault, OrderReads, OrderFault, LoadReads, LoadFault}
+use Rattle.lines.specs.Meaning.{Kind, LineFault, misshapen, at-field, HeadingReads, HeadingFault, OrderReads, OrderFault, LoadReads, LoadFault}
 use Rattle.lines.specs.declared.Heading.{Heading}
 use Rattle.lines.specs.declared.Order.{Order}
 use Rattle.lines.specs.declared.Load.{Load}
@@ -25,7 +25,7 @@ use Rattle.lines.proofs.read_heading.Reads as read-heading
 use Rattle.lines.proofs.read_order.Reads as read-order
 use Rattle.lines.proofs.read_load.Reads as read-load
 use Rattle.lines.proofs.FieldReading as fields
-use Rattle.lines.proofs.Faults as faults
+use Rattle.lines.proofs.Faults.{line-exactly, heading-go, order-go, load-go, read-at, first-from}
 
 -- "grower (1 to 9,999)", and "the word `steam`"
 pub last-grower : lastGrower ≡ 9_999
@@ -36,43 +36,65 @@ steam-bytes = fields.steam-bytes
 
 -- 1b: a list's first line is refused by a number exactly when its first fault has that number, and its values are what its fields read as
 pub heading-fault : (line : List ℕ) (number : ℕ) → (headingOf line ≡ wrong number) ↔ HeadingFault line number
-heading-fault = faults.heading-fault
+unfolding headingOf
+heading-fault line number = line-exactly heading-go 3 line {A = Heading} _ .1 number
 
 pub heading-reads : (line : List ℕ) (values : Heading) → (headingOf line ≡ right values) ↔ HeadingReads line values
-heading-reads = faults.heading-reads
+unfolding headingOf
+heading-reads line values = line-exactly heading-go 3 line {A = Heading} _ .0 values
 
 -- 1b: the same of an order line
 pub order-fault : (line : List ℕ) (number : ℕ) → (orderOf line ≡ wrong number) ↔ OrderFault line number
-order-fault = faults.order-fault
+unfolding orderOf
+order-fault line number = line-exactly order-go 3 line {A = Order} _ .1 number
 
 pub order-reads : (line : List ℕ) (values : Order) → (orderOf line ≡ right values) ↔ OrderReads line values
-order-reads = faults.order-reads
+unfolding orderOf
+order-reads line values = line-exactly order-go 3 line {A = Order} _ .0 values
 
 -- 1b: and of a plan line for a list with so many chambers
 pub load-fault : (count : ℕ) (line : List ℕ) (number : ℕ) → (loadOf count line ≡ wrong number) ↔ LoadFault count line number
-load-fault = faults.load-fault
+unfolding loadOf
+load-fault count line number = line-exactly (load-go count) 3 line {A = Load} _ .1 number
 
 pub load-reads : (count : ℕ) (line : List ℕ) (values : Load) → (loadOf count line ≡ right values) ↔ LoadReads count line values
-load-reads = faults.load-reads
+unfolding loadOf
+load-reads count line values = line-exactly (load-go count) 3 line {A = Load} _ .0 values
 
 -- so what was read is in its ranges, and a fault has a number from 1 to 4
 pub heading-ranges :
     (line : List ℕ) (values : Heading) → headingOf line ≡ right values
     → (1 ≤ values .chambers) × (values .chambers ≤ 8) × (1 ≤ values .run) × (values .run ≤ 9_999)
-heading-ranges = faults.heading-ranges
+heading-ranges line values e =
+    let makes = heading-reads line values .0 e in
+    let enough = makes .reads .shaped .enough in
+    let chambers = read-at (makes .reads .read) 1 (omega arith) in
+    let run = read-at (makes .reads .read) 2 (omega arith) in
+    rw (← makes .made) (chambers .least, chambers .most, run .least, run .most)
 
 pub order-ranges :
     (line : List ℕ) (values : Order) → orderOf line ≡ right values
     → (1 ≤ values .grower) × (values .grower ≤ 9_999) × (values .ready ≤ 999_999) × (values .due ≤ 999_999)
-order-ranges = faults.order-ranges
+order-ranges line values e =
+    let makes = order-reads line values .0 e in
+    let enough = makes .reads .shaped .enough in
+    let grower = read-at (makes .reads .read) 0 (omega arith) in
+    let ready = read-at (makes .reads .read) 1 (omega arith) in
+    rw (← makes .made) (grower .least, grower .most, ready .most, read-at (makes .reads .read) 2 (omega arith) .most)
 
 pub load-ranges :
     (count : ℕ) (line : List ℕ) (values : Load) → loadOf count line ≡ right values
     → (values .order ≤ 9_999) × (1 ≤ values .chamber) × (values .chamber ≤ count) × (values .start ≤ 999_999)
-load-ranges = faults.load-ranges
+load-ranges count line values e =
+    let makes = load-reads count line values .0 e in
+    let enough = makes .reads .shaped .enough in
+    let order = read-at (makes .reads .read) 0 (omega arith) in
+    let chamber = read-at (makes .reads .read) 1 (omega arith) in
+    rw (← makes .made) (order .most, chamber .least, chamber .most, read-at (makes .reads .read) 2 (omega arith) .most)
 
 pub line-fault-from : {least : ℕ} {kinds : List Kind} {line : List ℕ} {number : ℕ} → LineFault least kinds line number → (1 ≤ number) × (number ≤ 4)
-line-fault-from = faults.line-fault-from
+line-fault-from (misshapen never) = (omega arith, omega arith)
+line-fault-from (at-field fields shaped fault) = first-from fault
 
 -- the paper's number and values for each case of an answer
 pub heading-as-read : (values : Heading) → asHeading (heading.Read values) ≡ right values
@@ -112,28 +134,22 @@ load-told (load.Read one) (load.Refused other) same = absurd (never-right (sym s
 load-told (load.Refused one) (load.Read other) same = absurd (never-right same)
 load-told (load.Refused one) (load.Refused other) same = ap load.Refused (same-wrong same)
 
--- an answer is a case exactly when what was read is what the case stands for
-answers :
-    {A B : Type 0} {reading : A → B} → Injective reading → {answer case : A} {read : B} {Means : Type 0} → reading answer ≡ read → (read ≡ reading case) ↔ Means
-    → (answer ≡ case) ↔ Means
-answers {reading = reading} told {answer} {case} learnt means = (λ same. means .0 (sym learnt ∙ ap reading same), λ meant. told answer case (learnt ∙ means .1 meant))
-
 -- 1b, of the answer itself: `read_heading` reads these values exactly when the line has its three fields and they read as the word,
 -- these chambers from 1 to 8 and this run from 1 to 9,999; and it refuses by a number exactly when the first fault has it
 module _ (κs : Lfts 1) (line : RefT (List ℕ)) (answer : HeadingRead) (after : _) (learnt : read-heading.Learnt κs (line, tt) answer after) where
   pub heading-read-exactly : (values : Heading) → (answer ≡ heading.Read values) ↔ HeadingReads (line .now) values
-  heading-read-exactly values = answers heading-told learnt (faults.heading-reads (line .now) values)
+  heading-read-exactly values = Iff·trans (answered-exactly asHeading heading-told answer _ learnt) (heading-reads (line .now) values)
 
   pub heading-refused-exactly : (number : ℕ) → (answer ≡ heading.Refused number) ↔ HeadingFault (line .now) number
-  heading-refused-exactly number = answers heading-told learnt (faults.heading-fault (line .now) number)
+  heading-refused-exactly number = Iff·trans (answered-exactly asHeading heading-told answer _ learnt) (heading-fault (line .now) number)
 
 -- `read_order`: grower from 1 to 9,999, ready and due from 0 to 999,999
 module _ (κs : Lfts 1) (line : RefT (List ℕ)) (answer : OrderRead) (after : _) (learnt : read-order.Learnt κs (line, tt) answer after) where
   pub order-read-exactly : (values : Order) → (answer ≡ order.Read values) ↔ OrderReads (line .now) values
-  order-read-exactly values = answers order-told learnt (faults.order-reads (line .now) values)
+  order-read-exactly values = Iff·trans (answered-exactly asOrder order-told answer _ learnt) (order-reads (line .now) values)
 
   pub order-refused-exactly : (number : ℕ) → (answer ≡ order.Refused number) ↔ OrderFault (line .now) number
-  order-refused-exactly number = answers order-told learnt (faults.order-fault (line .now) number)
+  order-refused-exactly number = Iff·trans (answered-exactly asOrder order-told answer _ learnt) (order-fault (line .now) number)
 
 -- `read_load`: order line from 0 to 9,999, chamber from 1 to the list's count, start from 0 to 999,999
 module _
@@ -145,10 +161,10 @@ module _
     (learnt : read-load.Learnt κs (line, (count, tt)) answer after)
   where
     pub load-read-exactly : (values : Load) → (answer ≡ load.Read values) ↔ LoadReads count (line .now) values
-    load-read-exactly values = answers load-told learnt (faults.load-reads count (line .now) values)
+    load-read-exactly values = Iff·trans (answered-exactly asLoad load-told answer _ learnt) (load-reads count (line .now) values)
 
     pub load-refused-exactly : (number : ℕ) → (answer ≡ load.Refused number) ↔ LoadFault count (line .now) number
-    load-refused-exactly number = answers load-told learnt (faults.load-fault count (line .now) number)
+    load-refused-exactly number = Iff·trans (answered-exactly asLoad load-told answer _ learnt) (load-fault count (line .now) number)
 
 -- 1d: each public function's contract admits a single outcome
 pub read-heading-single : (κs : Lfts 1) (line : RefT (List ℕ)) (after : _) → Single (λ answer. read-heading.Learnt κs (line, tt) answer after)

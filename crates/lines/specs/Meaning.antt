@@ -68,8 +68,8 @@ FieldFault (hour-within low high) = HourFault low high
 pub data AllRead : List Kind → List (List ℕ) → List ℕ → Type 0 where
   no-more : {kinds : List Kind} → AllRead kinds [] []
   one-more :
-      {kind : Kind} {kinds : List Kind} {field : List ℕ} {fields : List (List ℕ)} {number : ℕ} {numbers : List ℕ} → FieldReads kind field number
-      → AllRead kinds fields numbers → AllRead (kind ∷ kinds) (field ∷ fields) (number ∷ numbers)
+      {kind : Kind} {kinds : List Kind} {field : List ℕ} {fields : List (List ℕ)} {number : ℕ} {numbers : List ℕ}
+      → FieldReads kind field number → AllRead kinds fields numbers → AllRead (kind ∷ kinds) (field ∷ fields) (number ∷ numbers)
 
 -- "then its fields from the left": the fault of the first, or the first reads and the others have this fault first
 pub data FirstFieldFault : List Kind → List (List ℕ) → ℕ → Type 0 where
@@ -101,7 +101,9 @@ pub record LineMakes {A : Type 0} (make : List ℕ → A) (least : ℕ) (kinds :
 -- "A line: 1 first, then its fields from the left": the first fault of a line
 pub data LineFault (least : ℕ) (kinds : List Kind) (line : List ℕ) : ℕ → Type 0 where
   misshapen : ((fields : List (List ℕ)) → Shaped least kinds line fields → ⊥) → LineFault least kinds line 1
-  at-field : {number : ℕ} (fields : List (List ℕ)) → Shaped least kinds line fields → FirstFieldFault kinds fields number → LineFault least kinds line number
+  at-field :
+      {number : ℕ} (fields : List (List ℕ)) → Shaped least kinds line fields → FirstFieldFault kinds fields number
+      → LineFault least kinds line number
 
 -- "First line: the word `steam`, the number of chambers (1 to 8), the run in hours (1 to 9,999 hundredths)"
 abbrev pub headingKinds : List Kind
@@ -128,7 +130,8 @@ abbrev pub loadKinds : ℕ → List Kind
 loadKinds count = plain-within 0 9_999 ∷ plain-within 1 count ∷ hour-within 0 999_999 ∷ []
 
 abbrev pub LoadReads : ℕ → List ℕ → Load → Type 0
-LoadReads count = LineMakes (λ numbers. record { order = getD numbers 0 0; chamber = getD numbers 1 0; start = getD numbers 2 0 }) 3 (loadKinds count)
+LoadReads count =
+    LineMakes (λ numbers. record { order = getD numbers 0 0; chamber = getD numbers 1 0; start = getD numbers 2 0 }) 3 (loadKinds count)
 
 abbrev pub LoadFault : ℕ → List ℕ → ℕ → Type 0
 LoadFault count = LineFault 3 (loadKinds count)

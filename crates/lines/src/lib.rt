@@ -2,7 +2,8 @@
 // Any bytes may come; what is wrong first, in the paper's order, is the refusal. Assumes nothing.
 ghost use mathlib.Core.Path.{_≡_};
 ghost use Rattle.ground.specs.Range.{within};
-ghost use Rattle.lines.specs.Reading.{steamAt, ranged, plainWithin, hourWithin, headingOf, orderOf, loadOf, asHeading, asOrder, asLoad};
+ghost use Rattle.lines.specs.Reading.{steamAt, ranged, plainWithin, hourWithin};
+ghost use Rattle.lines.specs.Reading.{headingOf, orderOf, loadOf, asHeading, asOrder, asLoad};
 ghost use Rattle.lines.specs.Steps.{asField, first};
 use fields::cut_line;
 use fields::field;

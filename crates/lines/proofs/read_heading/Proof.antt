@@ -1,56 +1,39 @@
 -- `read_heading` refuses a line that has not its shape, and reads the fields of any other by the cut: the first refusal from the left is
 -- the answer, or chambers and run.
-use mathlib.Core.Path.{_≡_, sym, ap, _∙_}
 use mathlib.Core.List.{[], _∷_}
 use native.Mathlib.Omega.{arith}
 use borrow.Author.Needs.{needs}
-use borrow.Author.Tests.{eq-eqb, ne-eqb, not-true, not-false}
-use Rattle.ground.specs.Limits.{mostChambers, longestRun}
-use Rattle.lines.specs.Reading.{lineOf, steamAt, plainWithin, hourWithin, headingReaders, headingOf}
-use Rattle.lines.proofs.LineReading.{outcome, refusalFrom, done, next, line-misshapen, line-read}
+use borrow.Author.Tests.{eq-eqb, ne-eqb}
+use Rattle.lines.specs.Reading.{headingReaders, headingOf}
+use Rattle.lines.proofs.LineReading.{Comes, done, next, line-misshapen, line-comes}
 use Rattle.lines.proofs.read_heading.Statement.{statement}
 use Rattle.lines.proofs.read_heading.Tie as tie
 
-returns : tie.Need-returns
-unfolding headingOf
-returns c =
-    let cut = c .before .before in
-    rw
-    (line-misshapen 3 headingReaders (cut .before .before .args .line .now) (cut .cut-line .result) (cut .cut-line .ensures) (omega arith)
-    (sym (c .before .shaped .ensures) ∙ not-true (c .before .shaped .result) (c .if1 .taken)))
-
--- past the shape, what the line comes to, by the refusal and the numbers
-comes-to :
-    (c : tie.After-first2)
-    → lineOf 3 headingReaders (c .before .before .before .before .before .before .before .before .before .before .before .before .args .line .now)
-    ≡ outcome (c .first2 .result) (c .before .before .before .before .before .before .steam-in .result .number ∷ c .before .before .before .before .plain-in .result .number ∷ c .before .before .hour-in .result .number ∷ [])
-unfolding refusalFrom
+-- past the shape, what the line comes to
+abbrev comes-to : tie.After-first2 → Comes headingReaders
 comes-to c =
     let third = c .before .before in
     let second = third .before .before in
     let one = second .before .before in
     let passed = one .before .before in
     let cut = passed .before .before in
-    let read =
-    line-read 3 headingReaders (cut .before .before .args .line .now) (cut .cut-line .result) (cut .cut-line .ensures) (omega arith)
-    (one .steam-in .result ∷ second .plain-in .result ∷ third .hour-in .result ∷ [])
-    (sym (passed .before .shaped .ensures) ∙ not-false (passed .before .shaped .result) (passed .if1 .left)) (omega arith) (λ low high. omega arith)
-    (next (one .steam-in .ensures ∙ ap steamAt (one .before .field .ensures .0))
-    (next (second .plain-in .ensures ∙ ap (plainWithin 1 mostChambers) (second .before .field2 .ensures .0))
-    (next (third .hour-in .ensures ∙ ap (hourWithin 1 longestRun) (third .before .field3 .ensures .0)) done))) in
-    rw (← c .before .first .ensures, ← c .first2 .ensures) at read
-
-returns-2 : tie.Need-returns-2
-unfolding headingOf
-returns-2 c = rw (comes-to (c .before), ne-eqb (c .before .first2 .result) 0 (λ none. omega arith))
-
-returns-3 : tie.Need-returns-3
-unfolding headingOf
-returns-3 c = rw (comes-to (c .before), eq-eqb (c .before .first2 .result) 0 (omega arith))
+    line-comes headingReaders (cut .before .before .args .line .now) (cut .cut-line .ensures) (omega arith) (passed .before .shaped .ensures)
+    (one .steam-in .result ∷ second .plain-in .result ∷ third .hour-in .result ∷ []) (c .first2 .result) (omega arith) (passed .if1 .left)
+    (next (one .steam-in .ensures) (one .before .field .ensures .0)
+    (next (second .plain-in .ensures) (second .before .field2 .ensures .0)
+    (next (third .hour-in .ensures) (third .before .field3 .ensures .0) done)))
+    (rw (c .before .first .ensures) at (c .first2 .ensures))
 
 pub read-heading-spec : {M : Type 1} → statement M
+unfolding headingOf
 read-heading-spec =
     tie.close
-    (tie.spec (λ c κs. search needs) (λ c κs. search needs) returns (λ c κs. search needs) (λ c κs. search needs)
+    (tie.spec (λ c κs. search needs) (λ c κs. search needs)
+    (λ c.
+    let cut = c .before .before in
+    rw
+    (line-misshapen headingReaders (cut .before .before .args .line .now) (cut .cut-line .ensures) (omega arith) (c .before .shaped .ensures) (c .if1 .taken)))
     (λ c κs. search needs) (λ c κs. search needs) (λ c κs. search needs) (λ c κs. search needs) (λ c κs. search needs)
-    (λ c κs. search needs) returns-2 returns-3)
+    (λ c κs. search needs) (λ c κs. search needs) (λ c κs. search needs)
+    (λ c. rw (comes-to (c .before) .comes, ne-eqb (c .before .first2 .result) 0 (λ none. omega arith)))
+    (λ c. rw (comes-to (c .before) .comes, eq-eqb (c .before .first2 .result) 0 (omega arith))))

@@ -3,8 +3,5 @@ use mathlib.Core.Path.{refl}
 use Rattle.lines.proofs.shaped.Statement.{statement}
 use Rattle.lines.proofs.shaped.Tie as tie
 
-returns : tie.Need-returns
-returns c = refl
-
 pub shaped-spec : {M : Type 1} → statement M
-shaped-spec = tie.close (tie.spec returns)
+shaped-spec = tie.close (tie.spec (λ c. refl))

@@ -6,15 +6,9 @@ use Rattle.lines.specs.Reading.{steam, steamAt}
 use Rattle.lines.proofs.steam_in.Statement.{statement}
 use Rattle.lines.proofs.steam_in.Tie as tie
 
-returns : tie.Need-returns
-unfolding steam bytes steamAt
-returns c = rw (sym (c .before .same-bytes .ensures) ∙ c .if1 .taken)
-
-returns-2 : tie.Need-returns-2
-unfolding steam bytes steamAt
-returns-2 c = rw (sym (c .before .same-bytes .ensures) ∙ c .if1 .left)
-
 pub steam-in-spec : {M : Type 1} → statement M
+unfolding steam bytes steamAt
 steam-in-spec =
     tie.close
-    (tie.spec (λ c. search needs) (λ c κs. search needs) returns returns-2)
+    (tie.spec (λ c. search needs) (λ c κs. search needs) (λ c. rw (sym (c .before .same-bytes .ensures) ∙ c .if1 .taken))
+    (λ c. rw (sym (c .before .same-bytes .ensures) ∙ c .if1 .left)))
