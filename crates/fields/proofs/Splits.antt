@@ -62,7 +62,7 @@ splits-other byte rest (text ∷ texts) no-tab no-end splits =
     more [] = refl
     more (next ∷ texts) = refl
 
-none-behind : (rest : List ℕ) → isNone rest ≡ true → rest ≡ []
+pub none-behind : (rest : List ℕ) → isNone rest ≡ true → rest ≡ []
 none-behind [] none = refl
 none-behind (byte ∷ rest) none = cc
 

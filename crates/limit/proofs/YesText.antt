@@ -12,9 +12,10 @@ use Rattle.ground.proofs.Tests.{by-test}
 use Rattle.classes.specs.Classes.{comma}
 use Rattle.writer.proofs.Writing.{length-of-text}
 use Rattle.texts.specs.Lines.{lineEnd, linesOf}
-use Rattle.fields.specs.Fields.{isNone, isEnded}
+use Rattle.fields.specs.Fields.{isEnded}
 use Rattle.lines.specs.Reading.{loadOf}
 use Rattle.fields.specs.Meaning.{tabbed}
+use Rattle.fields.proofs.Splits.{none-behind}
 use Rattle.planlines.specs.Writing.{planText}
 use Rattle.planlines.specs.Meaning.{InRange}
 use Rattle.texts.specs.Meaning.{joined}
@@ -48,17 +49,12 @@ loads-counted line (Yes chamber start ∷ answers) = omega (arith, loads-counted
 loads-counted line (No ∷ answers) = omega (arith, loads-counted (suc line) answers)
 loads-counted line (Refused number ∷ answers) = omega (arith, loads-counted (suc line) answers)
 
--- a text that passes the test of being empty is empty
-none-empty : (text : List ℕ) → isNone text ≡ true → text ≡ []
-none-empty [] none = refl
-none-empty (byte ∷ rest) none = cc
-
 -- an ended line is the first line of a text that it stands in front of
 ended-first : (line rest : List ℕ) → isEnded line ≡ true → linesOf (line ++ rest) ≡ line ∷ linesOf rest
 unfolding linesOf isEnded
 ended-first [] rest ended = cc
 ended-first (byte ∷ line) rest ended =
-    by-test (eqb byte lineEnd) (λ end. rw (end, none-empty line (rw end at ended))) (λ other. rw (other, ended-first line rest (rw other at ended)))
+    by-test (eqb byte lineEnd) (λ end. rw (end, none-behind line (rw end at ended))) (λ other. rw (other, ended-first line rest (rw other at ended)))
 
 -- so the lines of loads as plan lines are these
 pub load-lines : (loads : List Load) → linesOf (joined (map loadText loads)) ≡ map loadText loads

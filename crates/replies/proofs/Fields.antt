@@ -15,7 +15,7 @@ use Rattle.ground.proofs.Promises.{spelled-exactly}
 use Rattle.hours.specs.Spelling.{Spells}
 use Rattle.hours.proofs.Promises.{reads-exactly}
 use Rattle.fields.specs.Meaning.{allClean, isClean, Splits}
-use Rattle.fields.proofs.Promises.{splits-exactly}
+use Rattle.fields.proofs.Promises.{one-split}
 use Rattle.planlines.proofs.RoundTrip.{clean-number}
 use Rattle.writer.proofs.Promises.{hour-text, line-splits}
 use Rattle.book.specs.declared.Answer.{Answer}
@@ -66,10 +66,6 @@ sum-fields taken kept =
       splits = record { some = omega arith; clean = both (clean-number taken) (both (clean-number kept) refl); joined = refl };
     }
 
--- a line splits in one way
-split-once : (text : List ℕ) {one other : List (List ℕ)} → Splits text one → Splits text other → one ≡ other
-split-once text {one} {other} p q = sym (splits-exactly text one .1 p .1) ∙ splits-exactly text other .1 q .1
-
 -- a text spells one hour
 hour-of-one : (text : List ℕ) (one other : ℕ) → Spells 44 text one → Spells 44 text other → one ≡ other
 hour-of-one text one other p q = same-right (sym (reads-exactly text one .1 p) ∙ reads-exactly text other .1 q)
@@ -101,7 +97,7 @@ answer-once (bad-fields number word digits) (bad-fields other same figures) e =
 pub reply-once :
     (text : List ℕ) (line other-line : ℕ) (answer other : Answer) → ReplyTo line answer text → ReplyTo other-line other text → (line ≡ other-line) × (answer ≡ other)
 reply-once text line other-line answer other p q =
-    let same = split-once text (p .splits) (q .splits) in (
+    let same = one-split (p .splits) (q .splits) in (
       digits-of-one (p .numbered) (rw (← ap (fieldAt 0) same) at (q .numbered)),
       answer-once (p .answered) (q .answered) (ap rest same),
     )
@@ -113,7 +109,7 @@ reply-once text line other-line answer other p q =
 -- and one sum
 pub sum-once : (text : List ℕ) (taken kept other-taken other-kept : ℕ) → SumOf taken kept text → SumOf other-taken other-kept text → (taken ≡ other-taken) × (kept ≡ other-kept)
 sum-once text taken kept other-taken other-kept p q =
-    let same = split-once text (p .splits) (q .splits) in (
+    let same = one-split (p .splits) (q .splits) in (
       digits-of-one (p .counts-taken) (rw (← ap (fieldAt 1) same) at (q .counts-taken)),
       digits-of-one (p .counts-kept) (rw (← ap (fieldAt 2) same) at (q .counts-kept)),
     )
