@@ -2,6 +2,6 @@
 pub mod Lines
 pub mod WholeText
 pub mod Places
-pub mod Walks
+pub mod ByHand
 pub mod Thin
 pub mod Promises

@@ -1,16 +1,16 @@
 -- The lines of a text are all of it, each in its turn, and the line at a place is the first of what stands there. Assumes nothing.
-use Prim.Native.Nat.{ℕ, suc, _+_, _-_, _≤_, _<_}
+use Prim.Native.Nat.{ℕ, suc, _-_, _≤_, _<_}
 use mathlib.Core.Path.{_≡_, refl, _∙_, ap}
 use mathlib.Core.List.{List, [], _∷_, _++_, append-nil}
-use lib.ListN.{length, getD, take, drop, length-take, drop-of-length-le}
-use lib.Seq.{drop-cons, drop-drop, take-length, take-append-seam}
-use lib.Dec.{leb, eqb}
+use lib.ListN.{length, take, drop, length-take, length-drop, length-append}
+use lib.Seq.{drop-drop, take-length, drop-length, take-append-seam, drop-append-seam}
+use lib.Dec.{eqb}
 use native.Mathlib.Omega.{arith}
-use borrow.Author.Tests.{leb-true, leb-false, eqb-true, eqb-false, ne-eqb}
+use borrow.Author.Tests.{eqb-true, eqb-false, ne-eqb}
 use Rattle.ground.proofs.Tests.{by-test}
 use Rattle.texts.specs.Lines.{lineEnd, before, linesOf, lineLength, lineAt, pastLine}
 use Rattle.texts.specs.Meaning.{Unbroken, joined, AreLines, none, unended, more, FirstLine, ended, all-left}
-use Rattle.texts.proofs.Lines.{past-none, line-is, past-is, not-beyond}
+use Rattle.texts.proofs.Lines.{by-end, walk-done, line-is, past-is, not-beyond}
 
 -- texts without byte 10 have none one behind the other
 pub unbroken-append : (one other : List ℕ) → Unbroken one → Unbroken other → Unbroken (one ++ other)
@@ -44,25 +44,6 @@ lines-are (byte ∷ rest) =
     by-test (eqb byte lineEnd) (λ same. let here : byte ≡ 10 = eqb-true _ _ same in rw here (more [] (linesOf rest) tt (lines-are rest)))
     (λ other. rw other (before-lines byte (eqb-false _ _ other) (lines-are rest)))
 
--- and there is no other way to cut the text so
-lines-of-unended : (line : List ℕ) → 1 ≤ length line → Unbroken line → linesOf line ≡ line ∷ []
-unfolding linesOf Unbroken
-lines-of-unended [] some unbroken = absurd (omega arith)
-lines-of-unended (byte ∷ []) some unbroken = rw (ne-eqb byte lineEnd (unbroken .0))
-lines-of-unended (byte ∷ next ∷ rest) some unbroken =
-    rw (ne-eqb byte lineEnd (unbroken .0), lines-of-unended (next ∷ rest) (omega arith) (unbroken .1))
-
-lines-of-ended : (body rest : List ℕ) → Unbroken body → linesOf ((body ++ 10 ∷ []) ++ rest) ≡ (body ++ 10 ∷ []) ∷ linesOf rest
-unfolding linesOf Unbroken
-lines-of-ended [] rest unbroken = refl
-lines-of-ended (byte ∷ body) rest unbroken = rw (ne-eqb byte lineEnd (unbroken .0), lines-of-ended body rest (unbroken .1))
-
-pub lines-only : {lines : List (List ℕ)} → AreLines lines → linesOf (joined lines) ≡ lines
-unfolding joined linesOf
-lines-only none = refl
-lines-only (unended line some unbroken) = rw append-nil (lines-of-unended line some unbroken)
-lines-only (more body lines unbroken are) = rw (lines-of-ended body (joined lines) unbroken, lines-only are)
-
 -- the first line is found
 before-first : (byte : ℕ) {line text : List ℕ} → (byte ≡ 10 → ⊥) → FirstLine line text → FirstLine (byte ∷ line) (byte ∷ text)
 unfolding Unbroken
@@ -91,15 +72,27 @@ pub first-only : {line text : List ℕ} → FirstLine line text → line ≡ tak
 first-only (ended body rest unbroken) = rw (ended-length body rest unbroken, take-append-seam (body ++ 10 ∷ []) rest)
 first-only (all-left line unbroken) = rw (unbroken-length line unbroken, take-length line)
 
--- the first line, and the lines of what follows it
-first-line : (byte : ℕ) (rest : List ℕ) → linesOf (byte ∷ rest) ≡ take (lineLength (byte ∷ rest)) (byte ∷ rest) ∷ linesOf (drop (lineLength (byte ∷ rest)) (byte ∷ rest))
-unfolding linesOf lineLength
-first-line byte [] = by-test (eqb byte lineEnd) (λ same. rw same) (λ other. rw other)
-first-line byte (next ∷ rest) = by-test (eqb byte lineEnd) (λ same. rw same) (λ other. rw (other, first-line next rest))
-
-line-some : (byte : ℕ) (rest : List ℕ) → 1 ≤ lineLength (byte ∷ rest)
+-- a text that is not empty has a first line with a byte, and then the lines of what follows it
+line-some : (text : List ℕ) → 1 ≤ length text → 1 ≤ lineLength text
 unfolding lineLength
-line-some byte rest = by-test (eqb byte lineEnd) (λ same. rw same (omega arith)) (λ other. rw other (omega arith))
+line-some [] some = some
+line-some (byte ∷ rest) some = by-test (eqb byte lineEnd) (λ same. rw same (omega arith)) (λ other. rw other (omega arith))
+
+first-line : (text : List ℕ) → 1 ≤ length text → linesOf text ≡ take (lineLength text) text ∷ linesOf (drop (lineLength text) text)
+unfolding linesOf lineLength
+first-line [] some = absurd (omega arith)
+first-line (byte ∷ []) some = by-test (eqb byte lineEnd) (λ same. rw same) (λ other. rw other)
+first-line (byte ∷ next ∷ rest) some = by-test (eqb byte lineEnd) (λ same. rw same) (λ other. rw (other, first-line (next ∷ rest) (omega arith)))
+
+-- so there is no other way to cut the text
+pub lines-only : {lines : List (List ℕ)} → AreLines lines → linesOf (joined lines) ≡ lines
+unfolding joined linesOf
+lines-only none = refl
+lines-only (unended line some unbroken) = rw (append-nil, first-line line some, unbroken-length line unbroken, take-length line, drop-length line)
+lines-only (more body lines unbroken are) =
+    let some : 1 ≤ length ((body ++ 10 ∷ []) ++ joined lines) = simp length-append (omega arith) in
+    let size = ended-length body (joined lines) unbroken in
+    rw (first-line _ some, size, take-append-seam (body ++ 10 ∷ []) (joined lines), drop-append-seam (body ++ 10 ∷ []) (joined lines), lines-only are)
 
 module _ (text : List ℕ) (at : ℕ) where
   -- the line at a place is the first of what stands from there on, and no other is
@@ -111,21 +104,34 @@ module _ (text : List ℕ) (at : ℕ) where
   unfolding lineAt
   line-only first = first-only first
 
-  -- a walk at a place has the line there before it, and then the lines from the place past it on
-  pub walk-on : at < length text → linesOf (drop at text) ≡ lineAt text at ∷ linesOf (drop (pastLine text at) text)
-  unfolding lineAt pastLine
-  walk-on inside =
-      rw (← drop-drop (lineLength (drop at text)) at text, drop-cons text at 0 inside) (first-line (getD text at 0) (drop (suc at) text))
+  -- the part of a text up to the place past a line is that line
+  pub part-is-line : (end : ℕ) → end ≡ pastLine text at → take (end - at) (drop at text) ≡ lineAt text at
+  part-is-line end past = rw past (line-is text at)
 
-  -- a line that is handed out has a byte at least, so the empty part says that none is left
-  pub walk-some : at < length text → 1 ≤ length (lineAt text at)
-  unfolding lineAt
-  walk-some inside =
-      rw (drop-cons text at 0 inside) (simp length-take (omega (arith, line-some (getD text at 0) (drop (suc at) text))))
+  module _ (inside : at < length text) where
+    -- a walk at a place has the line there before it, and then the lines from the place past it on
+    pub walk-on : linesOf (drop at text) ≡ lineAt text at ∷ linesOf (drop (pastLine text at) text)
+    unfolding lineAt pastLine
+    walk-on = rw (← drop-drop (lineLength (drop at text)) at text) (first-line (drop at text) (omega (arith, length-drop at text)))
 
-  pub walk-done : length text ≤ at → (linesOf (drop at text) ≡ []) × (lineAt text at ≡ []) × (pastLine text at ≡ at)
-  unfolding lineAt linesOf lineLength
-  walk-done past = (rw (drop-of-length-le text past), rw (drop-of-length-le text past), past-none text at past)
+    -- a line that is handed out has a byte at least, so the empty part says that none is left
+    pub walk-some : 1 ≤ length (lineAt text at)
+    unfolding lineAt
+    walk-some = simp length-take (omega (arith, line-some (drop at text) (omega (arith, length-drop at text)), length-drop at text))
+
+    -- while a line is left the place moves on, and stays in the text
+    pub moves-on : at < pastLine text at
+    moves-on = omega (arith, past-is text at, walk-some)
+
+    pub ends-inside : pastLine text at ≤ length text
+    ends-inside = omega (arith, not-beyond text at)
+
+-- a walk that hands out a line with a byte moves on
+pub walk-further :
+    (text : List ℕ) (at end : ℕ) (line : List ℕ) → line ≡ lineAt text at → (length line ≡ 0 → ⊥) → end ≡ pastLine text at
+    → (at < length text) × (at < end)
+walk-further text at end line is some past =
+    by-end text at (λ done. absurd (some (ap length (is ∙ walk-done text at done .1)))) (λ inside. (inside, omega (arith, past, moves-on text at inside)))
 
 -- a text has no more lines than bytes
 before-longer : (byte : ℕ) (lines : List (List ℕ)) → length (before byte lines) ≤ suc (length lines)
@@ -138,23 +144,3 @@ lines-within [] = omega arith
 lines-within (byte ∷ rest) =
     by-test (eqb byte lineEnd) (λ same. rw same (omega (arith, lines-within rest)))
     (λ other. rw other (omega (arith, lines-within rest, before-longer byte (linesOf rest))))
-
--- while a line is left the place moves on
-pub moves-on : (text : List ℕ) (at : ℕ) → at < length text → at < pastLine text at
-moves-on text at inside = omega (arith, past-is text at, walk-some text at inside)
-
--- a walk that hands out a line with a byte moves on
-pub walk-further :
-    (text : List ℕ) (at end : ℕ) (line : List ℕ) → line ≡ lineAt text at → (length line ≡ 0 → ⊥) → end ≡ pastLine text at
-    → (at < length text) × (at < end)
-walk-further text at end line is some past =
-    by-test (leb (length text) at) (λ done. absurd (some (ap length (is ∙ walk-done text at (leb-true _ _ done) .1))))
-    (λ left. let inside : at < length text = leb-false _ _ left in (inside, omega (arith, past, moves-on text at inside)))
-
--- and it stays in the text
-pub ends-inside : (text : List ℕ) (at : ℕ) → at < length text → pastLine text at ≤ length text
-ends-inside text at inside = omega (arith, not-beyond text at)
-
--- the part of a text up to the place past a line is that line
-pub part-is-line : (text : List ℕ) (at end : ℕ) → end ≡ pastLine text at → take (end - at) (drop at text) ≡ lineAt text at
-part-is-line text at end past = rw past (line-is text at)

@@ -5,7 +5,7 @@ use native.Mathlib.Omega.{arith}
 use borrow.Author.Needs.{needs}
 use lib.ListN.{length, getD}
 use Rattle.texts.specs.Lines.{lineEnd, pastLine}
-use Rattle.texts.proofs.Lines.{past-none, past-end, past-other}
+use Rattle.texts.proofs.Lines.{walk-done, past-end, past-other}
 use Rattle.texts.proofs.line_end.Statement.{statement}
 use Rattle.texts.proofs.line_end.Tie as tie
 
@@ -29,7 +29,7 @@ loop-again : tie.Need-loop-again Inv-loop μ-loop
 loop-again c = c .before .before .before .loop .inv ∙ past-other _ _ (c .before .before .loop-test .taken) (c .if1 .left)
 
 returns-2 : tie.Need-returns-2 Inv-loop μ-loop
-returns-2 c = sym (c .before .loop .inv ∙ past-none _ _ (c .loop-test .left))
+returns-2 c = sym (c .before .loop .inv ∙ walk-done _ _ (c .loop-test .left) .2)
 
 pub line-end-spec : {M : Type 1} → statement M
 line-end-spec =
