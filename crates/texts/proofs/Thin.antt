@@ -4,7 +4,18 @@ use mir.Syntax.{Step, place, copy, rvOpd, aggregate, assign, seq, call, return, 
 use mathlib.Core.List.{map}
 use types.Part.{Part}
 use types.Run.{Walks}
-use Rattle.texts.proofs.ByHand.{refl, ap, ℕ, _<_, _^_, List, [], _∷_, Holds, URA, fullShare, named, erased, imm, tyRef, tyInt, w8, w64, Ty, Fn, Val, WT, hasTy, vint, SProp, ent, sep, id⊢, Lft, Share, Fml, fat, Memory, Routine, Heap, Calls, Loops, WpFn, Locals, Atoms, sem, Fun, Given, Item, ‵, raw, _⊛_, ⋆, _$_, _∵_, !, Go, qed, move, use1, use2, split, join, fsplit, fjoin, frame, rewrite, done, look-in, agg, look, init, forget, stop, from, load, of-opd, and-then, no-more, assigns, land, returns, enter, alloc1, alloc0, params1, pass1, pass0, free1, free0, FmC, owns, Is, uint-makes, u8, usize, RefT, sliceTy, shr-slice-lawful, shr-slice-copy, only, owned, nothing, lawful, tells, own-shut, Contract, Triple, tripleOf, Hands, Handed, walk-row, walk-type, walk-laws, walk-lowered, walk-mir, handed-row, handed-type, handed-laws, handed-lowered, handed-mir, α, αᵉ, R, machine, Tok, one, two, made, asks, _≡_, emp, Name, Model, GhostRules, Running, Env, tables, givenOf, Closed, Slot, typeAt, Ended, Clauses, atExit, closing, slice-vals, uint-vals, uint-tells, shr-slice-tells, by-walk, cited, suffices, ends-at, walkOf, stayed, use0, plain, shrSliceOf, yes}
+use Rattle.texts.proofs.ByHand.{refl, ap, ℕ, _<_, _^_, List, [], _∷_, Holds, URA, fullShare, named, erased, imm, tyRef, tyInt, w8}
+use Rattle.texts.proofs.ByHand.{w64, Ty, Fn, Val, WT, hasTy, vint, SProp, ent, sep, id⊢, Lft, Share, Fml, fat, Memory, Routine, Heap}
+use Rattle.texts.proofs.ByHand.{Calls, Loops, WpFn, Locals, Atoms, sem, Fun, Given, Item, ‵, raw, _⊛_, ⋆, _$_, _∵_, !, Go, qed, move}
+use Rattle.texts.proofs.ByHand.{use1, use2, split, join, fsplit, fjoin, frame, rewrite, done, look-in, agg, look, init, forget, stop}
+use Rattle.texts.proofs.ByHand.{from, load, of-opd, and-then, no-more, assigns, land, returns, enter, alloc1, alloc0, params1, pass1}
+use Rattle.texts.proofs.ByHand.{pass0, free1, free0, FmC, owns, Is, uint-makes, u8, usize, RefT, sliceTy, shr-slice-lawful}
+use Rattle.texts.proofs.ByHand.{shr-slice-copy, only, owned, nothing, lawful, tells, own-shut, Contract, Triple, tripleOf, Hands}
+use Rattle.texts.proofs.ByHand.{Handed, walk-row, walk-type, walk-laws, walk-lowered, walk-mir, handed-row, handed-type, handed-laws}
+use Rattle.texts.proofs.ByHand.{handed-lowered, handed-mir, α, αᵉ, R, machine, Tok, one, two, made, asks, _≡_, emp, Name, Model}
+use Rattle.texts.proofs.ByHand.{GhostRules, Running, Env, tables, givenOf, Closed, Slot, typeAt, Ended, Clauses, atExit, closing}
+use Rattle.texts.proofs.ByHand.{slice-vals, uint-vals, uint-tells, shr-slice-tells, by-walk, cited, suffices, ends-at, walkOf}
+use Rattle.texts.proofs.ByHand.{stayed, use0, plain, shrSliceOf, yes}
 use Rattle.texts.proofs.start as start
 use Rattle.texts.proofs.next as next
 

@@ -3,7 +3,17 @@
 -- The walk is Copy: what it owns is had twice before each call and at the exit. Of the copies, text goes to each callee, one with the new
 -- number in the place of at is the result's walk, and one is kept whole for the parameter.
 -- Assumes nothing.
-use Rattle.texts.proofs.ByHand.{_≡_, refl, ap, ℕ, _<_, _^_, List, [], _∷_, Holds, URA, fullShare, named, erased, imm, tyRef, tyInt, w8, w64, Val, WT, hasTy, vint, SProp, ent, sep, via, fst∗, snd∗, id⊢, Lft, Share, Fml, fat, Memory, Routine, Heap, Calls, Loops, WpFn, Atoms, sem, Fun, fact, fact-use, fact-mono, givenOf, Given, ‵, raw, _⊛_, given, ⋆, _$_, _∵_, !, qed, by, move, drop, use1, use2, split, join, learn, fsplit, fjoin, suffices, frame, rewrite, done, whole, sub, look-in, agg, look, init, forget, stop, fld, from, load, of-opd, and-then, no-more, assigns, land, returns, enter, alloc1, alloc0, params1, pass1, pass0, free1, free0, FmC, owns, Is, uint-makes, uint-lawful, usize, u8, now, RefT, sliceTy, shr-slice-lawful, shr-slice-tells, only, owned, nothing, copy, lawful, tells, vals, all-own, ownAt, rest, own-open, own-out, own-put, own-shut, Contract, Triple, onEntry, tripleOf, cited, says, walkOf, ends-at, Walk, Handed, walk-row, walk-type, walk-laws, walk-copy, walk-lowered, walk-mir, handed-type, handed-laws, handed-lowered, α, R, machine, Tok, two, made, stayed, by-walk, asks}
+use Rattle.texts.proofs.ByHand.{_≡_, refl, ap, ℕ, _<_, _^_, List, [], _∷_, Holds, URA, fullShare, named, erased, imm, tyRef, tyInt}
+use Rattle.texts.proofs.ByHand.{w8, w64, Val, WT, hasTy, vint, SProp, ent, sep, via, fst∗, snd∗, id⊢, Lft, Share, Fml, fat, Memory}
+use Rattle.texts.proofs.ByHand.{Routine, Heap, Calls, Loops, WpFn, Atoms, sem, Fun, fact, fact-use, fact-mono, givenOf, Given, ‵}
+use Rattle.texts.proofs.ByHand.{raw, _⊛_, given, ⋆, _$_, _∵_, !, qed, by, move, drop, use1, use2, split, join, learn, fsplit, fjoin}
+use Rattle.texts.proofs.ByHand.{suffices, frame, rewrite, done, whole, sub, look-in, agg, look, init, forget, stop, fld, from, load}
+use Rattle.texts.proofs.ByHand.{of-opd, and-then, no-more, assigns, land, returns, enter, alloc1, alloc0, params1, pass1, pass0}
+use Rattle.texts.proofs.ByHand.{free1, free0, FmC, owns, Is, uint-makes, uint-lawful, usize, u8, now, RefT, sliceTy}
+use Rattle.texts.proofs.ByHand.{shr-slice-lawful, shr-slice-tells, only, owned, nothing, copy, lawful, tells, vals, all-own, ownAt}
+use Rattle.texts.proofs.ByHand.{rest, own-open, own-out, own-put, own-shut, Contract, Triple, onEntry, tripleOf, cited, says, walkOf}
+use Rattle.texts.proofs.ByHand.{ends-at, Walk, Handed, walk-row, walk-type, walk-laws, walk-copy, walk-lowered, walk-mir}
+use Rattle.texts.proofs.ByHand.{handed-type, handed-laws, handed-lowered, α, R, machine, Tok, two, made, stayed, by-walk, asks}
 use Rattle.texts.specs.Lines.{pastLine, partOf, partStart}
 use Rattle.texts.specs.Meaning.{LiesAt}
 use Rattle.texts.proofs.line_end as line-end

@@ -1,7 +1,13 @@
 -- `start` makes a walk of the slice that it is passed and 0.
 -- A `&[u8]` is Copy, so what it owns is had twice: once for text at exit, and once inside the result, beside the facts of at.
 -- Assumes nothing.
-use Rattle.texts.proofs.ByHand.{refl, ℕ, List, [], _∷_, lit<, URA, named, w64, Val, SProp, ent, Lft, Share, Memory, Routine, Heap, Calls, Loops, WpFn, Atoms, Fun, givenOf, Given, ‵, raw, _⊛_, _$_, _∵_, !, qed, by, move, use1, split, fsplit, fjoin, suffices, frame, agg, look, init, forget, stop, from, load, lit, and-then, no-more, assigns, returns, enter, alloc1, alloc0, params1, pass1, pass0, free1, free0, owns, Is, uint-makes, u8, usize, RefT, slice-vals, shr-slice-tells, shr-slice-lawful, shr-slice-copy, nothing, owned, own-shut, onEntry, says, walkOf, ends-at, walk-type, walk-laws, walk-lowered, α, R, machine, Tok, one, made, stayed, by-walk}
+use Rattle.texts.proofs.ByHand.{refl, ℕ, List, [], _∷_, lit<, URA, named, w64, Val, SProp, ent, Lft, Share, Memory, Routine, Heap}
+use Rattle.texts.proofs.ByHand.{Calls, Loops, WpFn, Atoms, Fun, givenOf, Given, ‵, raw, _⊛_, _$_, _∵_, !, qed, by, move, use1, split}
+use Rattle.texts.proofs.ByHand.{fsplit, fjoin, suffices, frame, agg, look, init, forget, stop, from, load, lit, and-then, no-more}
+use Rattle.texts.proofs.ByHand.{assigns, returns, enter, alloc1, alloc0, params1, pass1, pass0, free1, free0, owns, Is, uint-makes}
+use Rattle.texts.proofs.ByHand.{u8, usize, RefT, slice-vals, shr-slice-tells, shr-slice-lawful, shr-slice-copy, nothing, owned}
+use Rattle.texts.proofs.ByHand.{own-shut, onEntry, says, walkOf, ends-at, walk-type, walk-laws, walk-lowered, α, R, machine, Tok}
+use Rattle.texts.proofs.ByHand.{one, made, stayed, by-walk}
 use Rattle.texts.proofs.start as start
 
 module _ {M : Type 1} (𝓤 : URA M) (H : Heap 𝓤) (A : Atoms 𝓤) (W : Given 𝓤 H A) (mem : Memory → SProp 𝓤) (run : Routine → Fun 𝓤) (κ : Lft) (q : Share) (s : RefT (List ℕ)) where

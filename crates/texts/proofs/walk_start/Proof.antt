@@ -1,5 +1,12 @@
 -- `walk_start` gives the place of the walk that `start` makes. All that is known of `start` is that it meets its contract. Assumes nothing.
-use Rattle.texts.proofs.ByHand.{refl, ap, ℕ, _<_, _^_, List, [], _∷_, URA, fullShare, named, erased, w64, Val, vint, SProp, ent, id⊢, Lft, Share, fat, Memory, Routine, Heap, Calls, Loops, WpFn, Atoms, Fun, givenOf, Given, ‵, raw, _⊛_, ⋆, _$_, _∵_, !, qed, by, move, drop, use1, split, suffices, frame, rewrite, done, whole, sub, look-in, look, init, forget, stop, fld, from, load, of-opd, and-then, no-more, assigns, land, returns, enter, alloc1, alloc0, params1, pass1, pass0, free1, free0, FmC, Is, uint-makes, uint-lawful, u8, usize, RefT, slice-vals, shr-slice-lawful, shr-slice-tells, only, owned, lawful, owed, tells, Triple, onEntry, cited, says, walkOf, ends-at, Starts, Walk, walk-row, walk-type, walk-laws, walk-mir, α, αᵉ, R, machine, Tok, one, stayed, by-walk, asks}
+use Rattle.texts.proofs.ByHand.{refl, ap, ℕ, _<_, _^_, List, [], _∷_, URA, fullShare, named, erased, w64, Val, vint, SProp, ent, id⊢}
+use Rattle.texts.proofs.ByHand.{Lft, Share, fat, Memory, Routine, Heap, Calls, Loops, WpFn, Atoms, Fun, givenOf, Given, ‵, raw, _⊛_}
+use Rattle.texts.proofs.ByHand.{⋆, _$_, _∵_, !, qed, by, move, drop, use1, split, suffices, frame, rewrite, done, whole, sub}
+use Rattle.texts.proofs.ByHand.{look-in, look, init, forget, stop, fld, from, load, of-opd, and-then, no-more, assigns, land}
+use Rattle.texts.proofs.ByHand.{returns, enter, alloc1, alloc0, params1, pass1, pass0, free1, free0, FmC, Is, uint-makes}
+use Rattle.texts.proofs.ByHand.{uint-lawful, u8, usize, RefT, slice-vals, shr-slice-lawful, shr-slice-tells, only, owned, lawful}
+use Rattle.texts.proofs.ByHand.{owed, tells, Triple, onEntry, cited, says, walkOf, ends-at, Starts, Walk, walk-row, walk-type}
+use Rattle.texts.proofs.ByHand.{walk-laws, walk-mir, α, αᵉ, R, machine, Tok, one, stayed, by-walk, asks}
 use Rattle.texts.proofs.Thin.{KeptOne, Start, to-start, goes-start}
 use Rattle.texts.proofs.start as start
 use Rattle.texts.proofs.walk_start as walk-start
