@@ -1,15 +1,13 @@
 -- Laws of what is written to a buffer. Assumes nothing.
-use Prim.Native.Nat.{ℕ, _-_, _≤_, _<_}
-use mathlib.Core.Path.{_≡_, refl, sym, ap}
+use Prim.Native.Nat.{ℕ, _+_, _-_, _≤_, _<_}
+use mathlib.Core.Path.{_≡_}
 use mathlib.Core.List.{List, [], _∷_, _++_, append-assoc, append-nil}
-use lib.ListN.{length, take, drop, set, length-append, length-drop}
-use lib.Seq.{drop-length, take-append-seam, drop-append-seam, drop-cons, drop-drop, set-append-seam, length-take-le}
-use borrow.Rule.Slice.PartMut.{putMid, midOf, mid-len}
+use lib.ListN.{length, getD, take, drop, set, length-append, length-drop}
+use lib.Seq.{drop-length, take-append-seam, drop-append-seam, drop-cons, drop-drop, set-append-seam, take-suc, take-suc-set}
+use borrow.Rule.Slice.PartMut.{putMid}
 use native.Mathlib.Numerals.{add-one}
 use native.Mathlib.Omega.{arith}
-use Rattle.ground.specs.Refusal.{wrong, right, Read}
-use Rattle.ground.specs.Buffer.{onto, lengthOf, bufferAfter}
-use Rattle.ground.proofs.Refusal.{never-right, same-right, same-wrong}
+use Rattle.ground.specs.Buffer.{onto}
 
 -- the text stands at the front
 pub front-of-onto : (text buffer : List ℕ) → take (length text) (onto text buffer) ≡ text
@@ -48,38 +46,8 @@ pub onto-part :
 unfolding onto
 onto-part text piece buffer at to here size = rw (size, here, take-append-seam, drop-append-seam, drop-drop, append-assoc, length-append)
 
--- A piece that is as long as the part lent for it, whatever that is: it fills the front, or the part that follows a text.
-module _ (piece : ℕ → List ℕ) (fills : (count : ℕ) → length (piece count) ≡ count) (filled buffer : List ℕ) where
-  pub front-filled :
-      (count : ℕ) → count ≤ length buffer → filled ≡ piece (length (take count buffer)) → filled ++ drop count buffer ≡ onto (piece count) buffer
-  unfolding onto
-  front-filled count room e = rw (e, length-take-le count buffer room, fills count)
-
-  pub part-filled :
-      (text : List ℕ) (at to : ℕ) → at ≡ length text → at ≤ to → to ≤ length buffer → filled ≡ piece (length (midOf at (to - at) (onto text buffer)))
-      → putMid at (to - at) (onto text buffer) filled ≡ onto (text ++ piece (to - at)) buffer
-  part-filled text at to here forward room e =
-      let whole : length (onto text buffer) ≡ length buffer = length-of-onto text buffer (omega arith) in
-      rw (e, mid-len at to (onto text buffer) (omega arith)) (onto-part text (piece (to - at)) buffer at to here (sym (fills (to - at))))
-
--- A refused writing leaves every byte of the buffer.
-pub refused-stays : (buffer : List ℕ) (text : Read (List ℕ)) (number : ℕ) → lengthOf text ≡ wrong number → bufferAfter buffer text ≡ buffer
-refused-stays buffer (wrong other) number refused = refl
-refused-stays buffer (right bytes) number refused = absurd (never-right (sym refused))
-
--- A writing that is not refused puts its bytes at the front, and its length is answered.
-pub written-front :
-    (buffer : List ℕ) (text : Read (List ℕ)) (count : ℕ) → lengthOf text ≡ right count → text ≡ right (take count (bufferAfter buffer text))
-written-front buffer (wrong other) count written = absurd (never-right written)
-written-front buffer (right bytes) count written = rw (← same-right written, front-of-onto)
-
--- It changes no other byte.
-pub written-rest :
-    (buffer : List ℕ) (text : Read (List ℕ)) (count : ℕ) → lengthOf text ≡ right count → drop count (bufferAfter buffer text) ≡ drop count buffer
-written-rest buffer (wrong other) count written = refl
-written-rest buffer (right bytes) count written = rw (← same-right written, rest-of-onto)
-
--- What is answered tells what became of the text.
-pub length-wrong : (text : Read (List ℕ)) (number : ℕ) → lengthOf text ≡ wrong number → text ≡ wrong number
-length-wrong (wrong other) number refused = ap wrong (same-wrong refused)
-length-wrong (right bytes) number refused = absurd (never-right (sym refused))
+-- A text is copied byte after byte: one byte more.
+pub copy-step :
+    (text buffer : List ℕ) (at : ℕ) → at < length text → at < length buffer → take at buffer ≡ take at text
+    → take (at + 1) (set buffer at (getD text at 0)) ≡ take (at + 1) text
+copy-step text buffer at inside room same = rw (add-one, take-suc-set buffer at _ room, take-suc text at 0 inside, same)

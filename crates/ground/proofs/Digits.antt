@@ -4,9 +4,10 @@ use mathlib.Core.Path.{_≡_, refl, sym, ap, _∙_}
 use mathlib.Core.List.{List, [], _∷_, _++_, append-nil, append-assoc}
 use mathlib.Core.Logic.{_↔_}
 use lib.ListN.{length, getD, drop, set, length-append, List·getD-append}
-use lib.Seq.{drop-length, drop-cons, lt-length-set, getD-set-same, drop-set-lt}
+use lib.Seq.{drop-cons, lt-length-set, getD-set-same, drop-set-lt}
 use lib.Dec.{ltb}
-use native.Mathlib.Nat.{pow-suc, pow-le-pow-right, mod-add-div', mod-lt, mod-eq-of-lt, add-mul-mod-self-right}
+use lib.Arith.{mod-mul}
+use native.Mathlib.Nat.{pow-suc, pow-le-pow-right}
 use native.Mathlib.Omega.{arith}
 use borrow.Author.Tests.{ltb-true, ltb-false, lt-ltb, le-ltb}
 use Rattle.ground.specs.Limits.{lastPlain}
@@ -50,37 +51,23 @@ value-more word byte = value-after-more 0 word byte
 length-more : (word : List ℕ) (byte : ℕ) → length (word ++ byte ∷ []) ≡ suc (length word)
 length-more word byte = simp length-append (omega arith)
 
--- a number below ten is its one digit, and any other is spelled by what stands before its last digit, and that digit
-within-one : (bound number : ℕ) → number < 10 → spelledWithin (suc bound) number ≡ lastDigit number ∷ []
-unfolding spelledWithin
-within-one bound number small = rw (lt-ltb number 10 small)
-
-within-more : (bound number : ℕ) → 10 ≤ number → spelledWithin (suc bound) number ≡ spelledWithin bound (number / 10) ++ lastDigit number ∷ []
-unfolding spelledWithin
-within-more bound number large = rw (le-ltb number 10 large)
-
 -- how far the bound lies above the number does not matter
 within-any : (one other number : ℕ) → number < one → number < other → spelledWithin one number ≡ spelledWithin other number
+unfolding spelledWithin
 within-any zero other number p q = absurd (omega arith)
 within-any (suc one) zero number p q = absurd (omega arith)
 within-any (suc one) (suc other) number p q =
-    by-test (ltb number 10)
-    (λ small. within-one one number (ltb-true _ _ small) ∙ sym (within-one other number (ltb-true _ _ small)))
-    (λ large.
-    let l : 10 ≤ number = ltb-false number 10 large in
-    within-more one number l
-    ∙ ap (λ (front : List ℕ). front ++ lastDigit number ∷ []) (within-any one other (number / 10) (omega arith) (omega arith))
-    ∙ sym (within-more other number l))
+    by-test (ltb number 10) (λ small. rw small)
+    (λ large. let l : 10 ≤ number = ltb-false number 10 large in rw (large, within-any one other (number / 10) (omega arith) (omega arith)))
 
+-- a number below ten is its one digit, and any other is spelled by what stands before its last digit, and that digit
 spelled-one : (number : ℕ) → number < 10 → spelled number ≡ lastDigit number ∷ []
-unfolding spelled
-spelled-one number small = within-one number number small
+unfolding spelled spelledWithin
+spelled-one number small = rw (lt-ltb number 10 small)
 
 spelled-more : (number : ℕ) → 10 ≤ number → spelled number ≡ spelled (number / 10) ++ lastDigit number ∷ []
-unfolding spelled
-spelled-more number large =
-    within-more number number large
-    ∙ ap (λ (front : List ℕ). front ++ lastDigit number ∷ []) (within-any number (suc (number / 10)) (number / 10) (omega arith) (omega arith))
+unfolding spelled spelledWithin
+spelled-more number large = rw (le-ltb number 10 large, within-any number (suc (number / 10)) (number / 10) (omega arith) (omega arith))
 
 -- what holds of the numbers below ten, and of a number where it holds of what stands before its last digit, holds of every number
 digit-induction :
@@ -141,32 +128,33 @@ spelled-worth number = spelled-meant number .worth
 pub spelled-digits : (number : ℕ) → AllDigits (spelled number)
 spelled-digits number = spelled-meant number .digits
 
+-- digits behind a number make it no smaller
+value-grows : (before : ℕ) (word : List ℕ) → before ≤ valueAfter before word
+unfolding valueAfter
+value-grows before [] = omega arith
+value-grows before (byte ∷ word) = omega (arith, value-grows (before * 10 + (byte - 48)) word)
+
 -- a word of digits with no leading zero but for 0 itself is its worth spelled out, with one more digit at its end too
 only-spelled-more :
     (word : List ℕ) (byte : ℕ) → (AllDigits word → 1 ≤ length word → Unpadded word → word ≡ spelled (valueOf word))
     → AllDigits (word ++ byte ∷ []) → Unpadded (word ++ byte ∷ [])
     → word ++ byte ∷ [] ≡ spelled (valueOf (word ++ byte ∷ []))
-unfolding valueOf valueAfter
+unfolding AllDigits valueOf valueAfter
 only-spelled-more [] byte before all unpadded =
     let digit = all-digits-less [] byte all .1 in
-    let last : byte ≡ lastDigit (valueOf (byte ∷ [])) = omega arith in
-    ap (λ (b : ℕ). b ∷ []) last ∙ sym (spelled-one (valueOf (byte ∷ [])) (omega arith))
+    let last : lastDigit (valueOf (byte ∷ [])) ≡ byte = omega arith in
+    rw (spelled-one (valueOf (byte ∷ [])) (omega arith), last)
 only-spelled-more (first ∷ rest) byte before all unpadded =
     let word = first ∷ rest in
     let p = all-digits-less word byte all in
     let other : first ≡ 48 → ⊥ = λ zeroed. omega (arith, unpadded zeroed, length-more word byte) in
-    let whole : word ≡ spelled (valueOf word) = before (p .0) (omega arith) (λ zeroed. absurd (other zeroed)) in
+    let some : 0 * 10 + (first - 48) ≤ valueOf word = value-grows (0 * 10 + (first - 48)) rest in
     let worth = valueOf (word ++ byte ∷ []) in
     let more : worth ≡ valueOf word * 10 + (byte - 48) = value-more word byte in
-    let some : 1 ≤ valueOf word =
-    by-test (ltb 0 (valueOf word)) (λ some. ltb-true _ _ some)
-    (λ none.
-    let worthless : valueOf word ≤ 0 = ltb-false _ _ none in
-    absurd (other (omega (arith, ap (λ (l : List ℕ). getD l 0 0) (whole ∙ spelled-one (valueOf word) (omega arith)))))) in
-    let last : byte ≡ lastDigit worth = omega arith in
-    let rest-worth : valueOf word ≡ worth / 10 = omega arith in
-    ap (λ (b : ℕ). word ++ b ∷ []) last ∙ ap (λ (front : List ℕ). front ++ lastDigit worth ∷ []) (whole ∙ ap spelled rest-worth)
-    ∙ sym (spelled-more worth (omega arith))
+    let last : lastDigit worth ≡ byte = omega arith in
+    let cut : worth / 10 ≡ valueOf word = omega arith in
+    rw (spelled-more worth (omega arith), cut, last)
+    (ap (λ (front : List ℕ). front ++ byte ∷ []) (before (p .0) (omega arith) (λ zeroed. absurd (other zeroed))))
 
 only-spelled : (word : List ℕ) → AllDigits word → 1 ≤ length word → Unpadded word → word ≡ spelled (valueOf word)
 only-spelled =
@@ -207,24 +195,27 @@ last-digits-spelled =
     (λ number small. rw (spelled-one number small))
     (λ number large before. rw (length-tenfold number large, before, spelled-more number large))
 
--- what they are worth is what is left of the number over that power of ten
-below-tenfold : (power number : ℕ) → 0 < power → number / 10 % power * 10 + number % 10 ≡ number % (power * 10)
-below-tenfold power number some =
-    let left : number / 10 % power < power = mod-lt (number / 10) some in
-    let cut : number ≡ number / 10 % power * 10 + number % 10 + number / 10 / power * (power * 10) =
-    omega (arith, mod-add-div' (number / 10) power) in
-    sym (ap (λ (n : ℕ). n % (power * 10)) cut ∙ add-mul-mod-self-right _ _ _ ∙ mod-eq-of-lt (omega arith))
+-- so many digits are worth less than that power of ten
+value-below : (word : List ℕ) → AllDigits word → valueOf word < 10 ^ length word
+unfolding valueOf valueAfter
+value-below =
+    word-induction (λ word. AllDigits word → valueOf word < 10 ^ length word) (λ all. omega arith)
+    (λ word byte below all.
+    let p = all-digits-less word byte all in
+    let b : valueOf word < 10 ^ length word = below (p .0) in
+    rw length-more (omega (arith, value-more word byte, pow-suc 10 (length word))))
 
-tens-some : (count : ℕ) → 0 < 10 ^ count
-tens-some zero = omega arith
-tens-some (suc count) = omega (arith, tens-some count, pow-suc 10 count)
+few-below : (word : List ℕ) (count : ℕ) → AllDigits word → length word ≤ count → valueOf word < 10 ^ count
+few-below word count all few = let most : 10 ^ length word ≤ 10 ^ count = pow-le-pow-right (omega arith) few in omega (arith, value-below word all)
 
+-- what the last digits of a number are worth is what is left of it over that power of ten
 pub last-digits-worth : (count number : ℕ) → valueOf (lastDigits count number) ≡ number % 10 ^ count
-unfolding lastDigits valueOf valueAfter
+unfolding lastDigits valueOf valueAfter AllDigits
 last-digits-worth zero number = omega arith
 last-digits-worth (suc count) number =
+    let some : 0 < 10 ^ count = few-below [] count tt (omega arith) in
     value-more (lastDigits count (number / 10)) (lastDigit number)
-    ∙ rw (last-digits-worth count (number / 10), pow-suc 10 count) (omega (arith, below-tenfold (10 ^ count) number (tens-some count)))
+    ∙ rw (last-digits-worth count (number / 10), pow-suc 10 count) (omega (arith, mod-mul number {c = 10} some (omega arith)))
 
 pub last-digits-all : (count number : ℕ) → AllDigits (lastDigits count number)
 unfolding lastDigits AllDigits
@@ -237,12 +228,8 @@ unfolding lastDigits
 length-last-digits zero number = refl
 length-last-digits (suc count) number = rw (length-more, length-last-digits count (number / 10))
 
--- A buffer is filled with last digits from its back: `at` digits are still to come, before the bytes that stand there.
--- Nothing stands there at first.
-pub fill-start : (number : ℕ) (buffer : List ℕ) → lastDigits (length buffer) number ++ drop (length buffer) buffer ≡ lastDigits (length buffer) number
-fill-start number buffer = simp (drop-length, append-nil)
-
--- One more digit stands, and one fewer is to come.
+-- A buffer is filled with last digits from its back: `at` digits are still to come, before the bytes that stand there. At each step one
+-- digit more stands, and one fewer is to come.
 pub fill-step :
     (at left : ℕ) (buffer : List ℕ) → 0 < at → at ≤ length buffer
     → lastDigits (at - 1) (left / 10) ++ drop (at - 1) (set buffer (at - 1) (lastDigit left)) ≡ lastDigits at left ++ drop at buffer
@@ -258,12 +245,6 @@ fill-step (suc at) left buffer some room =
       drop-set-lt (suc at) buffer at (lastDigit left) (omega arith),
       append-assoc,
     )
-
--- None is to come.
-pub fill-end : (at left : ℕ) (buffer : List ℕ) → at ≤ 0 → lastDigits at left ++ drop at buffer ≡ buffer
-unfolding lastDigits
-fill-end zero left buffer none = refl
-fill-end (suc at) left buffer none = absurd (omega arith)
 
 -- a digit alone is plain
 pub plain-one : (byte : ℕ) → DigitByte byte → Plain (byte ∷ [])
@@ -281,24 +262,10 @@ plain-more word byte plain worth small digit =
       unpadded = λ zeroed. absurd (padded-never word byte (plain .some) (plain .unpadded) worth zeroed);
     }
 
--- so many digits are worth less than that power of ten
-value-below : (word : List ℕ) → AllDigits word → valueOf word < 10 ^ length word
-unfolding valueOf valueAfter
-value-below =
-    word-induction (λ word. AllDigits word → valueOf word < 10 ^ length word) (λ all. omega arith)
-    (λ word byte below all.
-    let p = all-digits-less word byte all in
-    let b : valueOf word < 10 ^ length word = below (p .0) in
-    rw length-more (omega (arith, value-more word byte, pow-suc 10 (length word))))
-
 -- a plain word is worth at most four nines
 pub plain-worth : (word : List ℕ) → Plain word → valueOf word ≤ lastPlain
-plain-worth word plain =
-    let most : 10 ^ length word ≤ 10 ^ 4 = pow-le-pow-right (omega arith) (plain .most) in
-    omega (arith, value-below word (plain .digits))
+plain-worth word plain = omega (arith, few-below word 4 (plain .digits) (plain .most))
 
--- a number has at most as many digits as it counts, and one
-pub spelled-short : (number : ℕ) → length (spelled number) ≤ suc number
-spelled-short =
-    digit-induction (λ number. length (spelled number) ≤ suc number) (λ number small. omega (arith, length-one number small))
-    (λ number large before. omega (arith, length-tenfold number large))
+-- and a number of at most so many digits is below that power of ten
+pub spelled-below : (count number : ℕ) → length (spelled number) ≤ count → number < 10 ^ count
+spelled-below count number few = omega (arith, few-below (spelled number) count (spelled-digits number) few, spelled-worth number)

@@ -15,12 +15,3 @@ answered-exactly reading injective answer this learnt = (λ same. sym learnt ∙
 -- what an equation gives outright is fixed
 pub single-value : {A : Type 0} (value : A) → Single (λ outcome. outcome ≡ value)
 single-value value = single-answer (λ outcome. outcome) (λ one other same. same) value
-
--- an answer, and what a buffer holds when it is given
-pub single-writing :
-    {A B C : Type 0} (reading : A → B) → Injective reading → (read : B) (held : C)
-    → Single {A = A × C} (λ outcome. (reading (outcome .0) ≡ read) × (outcome .1 ≡ held))
-single-writing reading injective read held one other p q =
-    let answers : one .0 ≡ other .0 = single-answer reading injective read (one .0) (other .0) (p .0) (q .0) in
-    let buffers : one .1 ≡ other .1 = single-value held (one .1) (other .1) (p .1) (q .1) in
-    λ i. (answers i, buffers i)

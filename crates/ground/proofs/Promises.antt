@@ -13,16 +13,7 @@ use borrow.Author.Tests.{leb-true, leb-false, le-leb, lt-leb}
 use contract.Lifetimes.{Lfts}
 use Rattle.ground.specs.Refusal.{Or, wrong, right, check, numberOf, _>>=_, _>>_}
 use Rattle.ground.specs.Range.{within}
-use Rattle.ground.specs.Limits.{
-  lastHour,
-  mostChambers,
-  lastPlain,
-  longestRun,
-  mostOrders,
-  longestText,
-  firstOrderLine,
-  lastOrderLine,
-}
+use Rattle.ground.specs.Limits.{lastHour, mostChambers, lastPlain, longestRun, mostOrders, longestText, firstOrderLine, lastOrderLine}
 use Rattle.ground.specs.Spelling.{AllDigits, valueOf, DigitsOf}
 use Rattle.ground.specs.Digits.{lastDigit, lastDigits, spelled}
 use Rattle.ground.specs.Buffer.{onto, fitted, lengthOf, bufferAfter}

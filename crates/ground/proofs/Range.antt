@@ -1,12 +1,12 @@
 -- Laws of ranges: the test and the two bounds. Assumes nothing.
-use Prim.Native.Nat.{ℕ, _≤_, _<_}
+use Prim.Native.Nat.{ℕ, _≤_}
 use mathlib.Core.Path.{_≡_}
 use mathlib.Core.Bool.{true, false}
-use mathlib.Core.Logic.{_⊎_, inl, inr, _↔_}
+use mathlib.Core.Logic.{_↔_}
 use lib.Dec.{leb}
-use borrow.Author.Tests.{leb-true, leb-false, le-leb}
+use borrow.Author.Tests.{leb-true, le-leb}
 use Rattle.ground.specs.Range.{within}
-use Rattle.ground.proofs.Tests.{by-test, never-both, not-met, both, first-of, second-of}
+use Rattle.ground.proofs.Tests.{never-both, not-met, both, first-of, second-of}
 
 module _ (low high number : ℕ) where
   pub within-from : low ≤ number → number ≤ high → within low high number ≡ true
@@ -17,14 +17,6 @@ module _ (low high number : ℕ) where
 
   pub within-high : within low high number ≡ true → number ≤ high
   within-high inside = leb-true _ _ (second-of (leb low number) (leb number high) inside)
-
-  -- outside a range a number is below it or above it
-  pub outside : within low high number ≡ false → (number < low) ⊎ (high < number)
-  outside out =
-      by-test (leb low number)
-      (λ least.
-      by-test (leb number high) (λ most. absurd (never-both (both least most) out)) (λ above. inr (leb-false _ _ above)))
-      (λ below. inl (leb-false _ _ below))
 
 -- a number is outside a range exactly when it is not in it
 pub outside-exactly : (low high number : ℕ) → (within low high number ≡ false) ↔ ((low ≤ number) × (number ≤ high) → ⊥)

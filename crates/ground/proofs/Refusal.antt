@@ -2,9 +2,9 @@
 use Prim.Native.Nat.{ℕ}
 use mathlib.Core.Path.{_≡_, refl, sym, ap, _∙_}
 use mathlib.Core.Logic.{_↔_}
-use mathlib.Core.Bool.{Bool, true, false, cond}
+use mathlib.Core.Bool.{Bool, true, false, cond, _&&_}
 use native.Mathlib.Omega.{arith}
-use Rattle.ground.proofs.Tests.{by-test}
+use Rattle.ground.proofs.Tests.{never-both}
 use Rattle.ground.specs.Refusal.{Or, wrong, right, Read, check, numberOf, _>>_}
 
 -- a value is no refusal
@@ -23,15 +23,17 @@ pub number-of-check : {A : Type 0} (met : Bool) (number : ℕ) (rest : Read A) �
 number-of-check true number rest = refl
 number-of-check false number rest = refl
 
+-- two checks by one number are one check
+pub two-checks :
+    {A : Type 0} (one other : Bool) (number : ℕ) (rest : Read A)
+    → ((check one number >> check other number) >> rest) ≡ (check (one && other) number >> rest)
+two-checks true other number rest = refl
+two-checks false other number rest = refl
+
 -- with a number there is a refusal
 pub refused-by : {A : Type 0} (read : Read A) → (numberOf read ≡ 0 → ⊥) → read ≡ wrong (numberOf read)
 refused-by (wrong number) some = refl
 refused-by (right value) some = absurd (some refl)
-
--- with none the check was met
-pub met-by : {A : Type 0} (met : Bool) (number : ℕ) (rest : Read A) → (number ≡ 0 → ⊥) → numberOf (check met number >> rest) ≡ 0 → met ≡ true
-met-by true number rest some none = refl
-met-by false number rest some none = absurd (some none)
 
 -- a check that is met leaves what follows it, and one that is not is the refusal
 pub after-met : {A : Type 0} {met : Bool} (number : ℕ) (rest : Read A) → met ≡ true → (check met number >> rest) ≡ rest
@@ -47,37 +49,25 @@ pub passed-by :
 passed-by true number rest result other e = (refl, e)
 passed-by false number rest result other e = absurd (other e)
 
--- a refusal by this number that nothing later gives is this check's
-pub unmet-by :
-    {A : Type 0} (met : Bool) (number : ℕ) (rest : Read A) → (rest ≡ wrong number → ⊥) → (check met number >> rest) ≡ wrong number → met ≡ false
-unmet-by true number rest later e = absurd (later e)
-unmet-by false number rest later e = refl
+-- what a reading says: a value that is meant, or its one refusal
+abbrev pub ReadAs : {A : Type 0} → (A → Type 0) → ℕ → Read A → Type 0
+ReadAs Meant number (wrong given) = given ≡ number
+ReadAs Meant number (right value) = Meant value
 
--- A reading that gives a value exactly when the value is meant, and has one refusal, is refused by that exactly when none is meant.
+-- one that gives every value that is meant is refused exactly when none is
 pub refused-otherwise :
-    {A : Type 0} (read : Read A) (number : ℕ) (Meant : A → Type 0) → ((value : A) → (read ≡ right value) ↔ Meant value)
-    → ((given : ℕ) → read ≡ wrong given → given ≡ number) → (given : ℕ)
-    → (read ≡ wrong given) ↔ ((given ≡ number) × ((value : A) → Meant value → ⊥))
-refused-otherwise (wrong other) number Meant means only given = (
-  λ e. (only given e, λ value meant. never-right (means value .1 meant)),
-  λ none. ap wrong (only other refl ∙ sym (none .0)),
-)
-refused-otherwise (right value) number Meant means only given = (λ e. absurd (never-right (sym e)), λ none. absurd (none .1 value (means value .0 refl)))
+    {A : Type 0} (read : Read A) (number : ℕ) (Meant : A → Type 0) → ReadAs Meant number read → ((value : A) → Meant value → read ≡ right value)
+    → (given : ℕ) → (read ≡ wrong given) ↔ ((given ≡ number) × ((value : A) → Meant value → ⊥))
+refused-otherwise (wrong other) number Meant says gives given =
+    (λ e. (sym (same-wrong e) ∙ says, λ value meant. never-right (gives value meant)), λ none. ap wrong (says ∙ sym (none .0)))
+refused-otherwise (right value) number Meant says gives given = (λ e. absurd (never-right (sym e)), λ none. absurd (none .1 value says))
 
--- A check and a value behind it.
-module _ {A : Type 0} (met : Bool) (number : ℕ) (kept : A) where
-  -- they come to the value exactly when the check is met
-  pub checked-right : (value : A) → ((check met number >> right kept) ≡ right value) ↔ ((met ≡ true) × (kept ≡ value))
-  checked-right value = (
-    λ e. let p = passed-by met number (right kept) (right value) never-right e in (p .0, same-right (p .1)),
-    λ p. after-met number (right kept) (p .0) ∙ ap right (p .1),
-  )
+-- a check and a value behind it come to the value exactly when the check is met, and to the check's refusal exactly when it is not
+pub checked-right : {A : Type 0} (met : Bool) (number : ℕ) (kept value : A) → ((check met number >> right kept) ≡ right value) ↔ ((met ≡ true) × (kept ≡ value))
+checked-right true number kept value = (λ e. (refl, same-right e), λ p. ap right (p .1))
+checked-right false number kept value = (λ e. absurd (never-right e), λ p. absurd (never-both (p .0) refl))
 
-  -- and to the check's refusal exactly when it is not
-  pub checked-wrong : (given : ℕ) → ((check met number >> right kept) ≡ wrong given) ↔ ((met ≡ false) × (given ≡ number))
-  checked-wrong given = (
-    λ e.
-        by-test met (λ passed. absurd (never-right (sym e ∙ after-met number (right kept) passed)))
-        (λ failed. (failed, same-wrong (sym e ∙ after-unmet number (right kept) failed))),
-    λ p. after-unmet number (right kept) (p .0) ∙ ap wrong (sym (p .1)),
-  )
+pub checked-wrong :
+    {A : Type 0} (met : Bool) (number : ℕ) (kept : A) (given : ℕ) → ((check met number >> right kept) ≡ wrong given) ↔ ((met ≡ false) × (given ≡ number))
+checked-wrong true number kept given = (λ e. absurd (never-right (sym e)), λ p. absurd (never-both refl (p .0)))
+checked-wrong false number kept given = (λ e. (refl, sym (same-wrong e)), λ p. ap wrong (sym (p .1)))

@@ -1,5 +1,4 @@
 -- The laws of this room, by what they are about.
-pub mod Classes
 pub mod Scanning
 pub mod Spelling
 pub mod Promises

@@ -4,7 +4,8 @@ ghost use mathlib.Core.Path.{_≡_};
 ghost use Prim.Native.Nat.{_≤_};
 ghost use lib.ListN.{length, take};
 ghost use Rattle.classes.specs.Classes.{comma};
-ghost use Rattle.hours.specs.Reading.{longer, nextAtDigit, nextAtMark, next, scanned, inHundredths, ended, hourOf, asHour, endedPlain, plainOf, asPlain};
+ghost use Rattle.hours.specs.Reading.{longer, nextAtDigit, nextAtMark, next, scanned, inHundredths};
+ghost use Rattle.hours.specs.Reading.{ended, hourOf, asHour, endedPlain, plainOf, asPlain};
 use classes::Class;
 
 // How far the reading of an hour has come: the whole part, the tenth and the hundredth read so far.

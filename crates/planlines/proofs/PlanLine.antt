@@ -3,13 +3,14 @@ use Prim.Native.Nat.{ℕ}
 use mathlib.Core.Path.{_≡_, refl}
 use mathlib.Core.Bool.{Bool, true, false, _&&_}
 use mathlib.Core.List.{List}
+use mathlib.Core.Logic.{_↔_}
 use lib.Dec.{leb}
 use borrow.Author.Tests.{leb-true, leb-false, le-leb}
 use Rattle.ground.specs.Refusal.{right, check, _>>=_, _>>_}
 use Rattle.ground.specs.Range.{within}
 use Rattle.ground.specs.Limits.{lastHour, mostChambers, firstOrderLine, lastOrderLine}
 use Rattle.ground.proofs.Tests.{by-test, both, first-of, second-of}
-use Rattle.ground.proofs.Range.{within-from, within-low, within-high}
+use Rattle.ground.proofs.Promises.{within-exactly}
 use Rattle.classes.specs.Classes.{comma}
 use Rattle.writer.specs.Writing.{hourText, hourWritten}
 use Rattle.writer.specs.Line.{textsOf, lineMade}
@@ -43,25 +44,18 @@ tested order chamber start =
     go true true false hour text = refl
     go true true true hour text = refl
 
-module _ (order chamber start : ℕ) where
-  -- the test says that the numbers lie in their ranges
-  pub ranges-hold : inRange order chamber start ≡ true → InRange order chamber start
-  ranges-hold passed =
-      let first = within firstOrderLine lastOrderLine order in
-      let second = within 1 mostChambers chamber in
-      let places = first-of (first && second) _ passed in
-      let ordered = first-of first second places in
-      let housed = second-of first second places in
-      record {
-        order-line = (within-low _ _ _ ordered, within-high _ _ _ ordered);
-        chamber-number = (within-low _ _ _ housed, within-high _ _ _ housed);
-        start-hour = leb-true _ _ (second-of (first && second) _ passed);
-      }
-
-  -- and numbers that do pass it
-  pub ranges-pass : InRange order chamber start → inRange order chamber start ≡ true
-  ranges-pass ranged =
-      both
-      (both (within-from _ _ _ (ranged .order-line .0) (ranged .order-line .1))
-      (within-from _ _ _ (ranged .chamber-number .0) (ranged .chamber-number .1)))
-      (le-leb _ _ (ranged .start-hour))
+-- the test says that the numbers lie in their ranges
+pub in-range : (order chamber start : ℕ) → (inRange order chamber start ≡ true) ↔ InRange order chamber start
+in-range order chamber start =
+    let first = within firstOrderLine lastOrderLine order in
+    let second = within 1 mostChambers chamber in (
+      λ passed.
+          let places = first-of (first && second) _ passed in
+          record {
+            order-line = within-exactly _ _ _ .0 (first-of first second places);
+            chamber-number = within-exactly _ _ _ .0 (second-of first second places);
+            start-hour = leb-true _ _ (second-of (first && second) _ passed);
+          },
+      λ ranged.
+          both (both (within-exactly _ _ _ .1 (ranged .order-line)) (within-exactly _ _ _ .1 (ranged .chamber-number))) (le-leb _ _ (ranged .start-hour)),
+    )

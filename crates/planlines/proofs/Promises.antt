@@ -29,18 +29,16 @@ write-plan-line-single κs order chamber start buffer one other held kept p q = 
 pub plan-text : (order chamber start : ℕ) → InRange order chamber start → PlanText order chamber start (planText order chamber start)
 plan-text = back.plan-text
 
--- 1b, 1c: a plan line is refused by 4 exactly when a number is out of its range,
--- whatever the room, then by 7 exactly when its text is longer
--- than the buffer, and every byte stays; in every other case its text stands at the
--- front, every other byte stays, and its length is answered
+-- 1b, 1c: a plan line is refused by 4 exactly when a number is out of its range, whatever the room, then by 7 exactly when its text is
+-- longer than the buffer, and every byte stays; in every other case its text stands at the front, every other byte stays, and its
+-- length is answered
 pub plan-line-writes :
     (κs : Lfts 1) (order chamber start : ℕ) (buffer : _) (answer : Written) (after : _)
     → write-plan-line.Learnt κs (order, (chamber, (start, (buffer, tt)))) answer after
     → Writes (InRange order chamber start) (planText order chamber start) (now buffer) answer (now (after .1 .1 .1 .0))
 plan-line-writes κs order chamber start buffer answer after learnt =
-    answers.writes (plan.inRange order chamber start) (InRange order chamber start) (plan.ranges-hold order chamber start, plan.ranges-pass order chamber start)
-    (planText order chamber start) (now buffer) (planWritten order chamber start) (plan.tested order chamber start) answer (now (after .1 .1 .1 .0)) (learnt .0)
-    (learnt .1)
+    answers.writes (plan.inRange order chamber start) (InRange order chamber start) (plan.in-range order chamber start) (planText order chamber start)
+    (now buffer) (planWritten order chamber start) (plan.tested order chamber start) answer (now (after .1 .1 .1 .0)) (learnt .0) (learnt .1)
 
 -- 2e: what was written reads back as its three numbers, with any list's count that admits the chamber
 pub written-reads-back :

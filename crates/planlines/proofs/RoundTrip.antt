@@ -3,7 +3,6 @@ use Prim.Native.Nat.{ℕ, _≤_, _/_}
 use mathlib.Core.Path.{_≡_, refl, sym, ap, _∙_}
 use mathlib.Core.Bool.{true}
 use mathlib.Core.List.{List, [], _∷_, _++_, append-nil}
-use lib.ListN.{length}
 use native.Mathlib.Omega.{arith}
 use borrow.Author.Tests.{ne-eqb}
 use Rattle.ground.specs.Refusal.{right}
@@ -23,18 +22,15 @@ use Rattle.lines.specs.Reading.{loadOf}
 use Rattle.lines.specs.Meaning.{PlainReads, no-more, one-more}
 use Rattle.planlines.specs.Writing.{planText}
 use Rattle.planlines.specs.Meaning.{InRange, PlanText}
-use Rattle.fields.specs.Meaning.{isClean, allClean, tabbed, Splits}
+use Rattle.fields.specs.Meaning.{isClean, allClean, Splits}
 use Rattle.lines.specs.declared.Load.{Load}
 use Rattle.fields.proofs.Splits.{fields-of-tabbed}
 use Rattle.lines.proofs.Promises.{load-reads}
 
 -- digits are clean, and so is what is put behind a clean text
-clean-byte : (byte : ℕ) (rest : List ℕ) → (byte ≡ tab → ⊥) → (byte ≡ lineEnd → ⊥) → isClean rest ≡ true → isClean (byte ∷ rest) ≡ true
-unfolding isClean
-clean-byte byte rest no-tab no-end clean = rw (ne-eqb byte tab no-tab, ne-eqb byte lineEnd no-end) clean
-
 clean-digit : (byte : ℕ) (rest : List ℕ) → DigitByte byte → isClean rest ≡ true → isClean (byte ∷ rest) ≡ true
-clean-digit byte rest digit clean = clean-byte byte rest (λ e. omega arith) (λ e. omega arith) clean
+unfolding isClean
+clean-digit byte rest digit clean = rw (ne-eqb byte tab (λ e. omega arith), ne-eqb byte lineEnd (λ e. omega arith)) clean
 
 clean-digits : (word rest : List ℕ) → AllDigits word → isClean rest ≡ true → isClean (word ++ rest) ≡ true
 unfolding AllDigits
@@ -62,15 +58,13 @@ module _ (order chamber start : ℕ) where
   numbers-clean = both (clean-number order) (both (clean-number chamber) (both (clean-hour start) refl))
 
   -- a plan line's text is its three numbers with tabs between and the line end behind
-  text-tabbed : planText order chamber start ≡ tabbed numbers ++ lineEnd ∷ []
-  unfolding planText
-  text-tabbed = refl
-
   pub text-ended : isEnded (planText order chamber start) ≡ true
-  text-ended = rw text-tabbed (fields-of-tabbed numbers (omega arith) numbers-clean .0)
+  unfolding planText
+  text-ended = fields-of-tabbed numbers (omega arith) numbers-clean .0
 
   text-splits : Splits (planText order chamber start) numbers
-  text-splits = record { some = omega arith; clean = numbers-clean; joined = text-tabbed }
+  unfolding planText
+  text-splits = record { some = omega arith; clean = numbers-clean; joined = refl }
 
 -- a spelled number reads as itself, where it is in its range
 plain-back : (number : ℕ) {low high : ℕ} → number ≤ lastPlain → low ≤ number → number ≤ high → PlainReads low high (spelled number) number

@@ -39,7 +39,8 @@ fn put_plan_line(so_far: Written, order: u32, chamber: u32, start: u32, own: &mu
 // Writes a plan line: refusal 4 where a number is out of its range, then 7 where the buffer is too short.
 pub fn write_plan_line(order: u32, chamber: u32, start: u32, buffer: &mut [u8]) -> Written
     ensures { λ r. ⌜ asLength r ≡ lengthOf (fitted (now (buffer .entry)) (planWritten order chamber start)) ⌝ }
-    ensures { λ r. ⌜ now (buffer .exit) ≡ bufferAfter (now (buffer .entry)) (fitted (now (buffer .entry)) (planWritten order chamber start)) ⌝ }
+    ensures { λ r. ⌜ now (buffer .exit)
+        ≡ bufferAfter (now (buffer .entry)) (fitted (now (buffer .entry)) (planWritten order chamber start)) ⌝ }
 {
     let mut own = [0u8; LINE_ROOM];
     let begun = begin_plan_line(order, chamber);

@@ -1,15 +1,14 @@
 -- Laws of a line that is put together field behind field, and written whole or not at all. Assumes nothing.
 use Prim.Native.Nat.{ℕ, _+_, _-_, _/_, _≤_, _<_}
 use mathlib.Core.Path.{_≡_, refl, sym, ap, _∙_}
-use mathlib.Core.Bool.{true, false}
 use mathlib.Core.List.{List, [], _∷_, _++_, append-assoc}
-use lib.ListN.{length, take, drop, set, length-append, length-take}
-use lib.Seq.{length-take-le, drop-drop, take-append-seam}
-use lib.Dec.{leb, ltb}
+use lib.ListN.{length, take, set, length-append}
+use lib.Seq.{length-take-le, drop-drop}
+use lib.Dec.{leb}
 use native.Mathlib.Omega.{arith}
 use borrow.Author.Tests.{le-leb, lt-leb, lt-ltb, le-ltb, leb-true, leb-false}
 use borrow.Rule.Slice.PartMut.{putMid, midOf, mid-len}
-use Rattle.ground.specs.Refusal.{Read, wrong, right, check, _>>=_, _>>_}
+use Rattle.ground.specs.Refusal.{Read, wrong, right, _>>=_, _>>_}
 use Rattle.ground.specs.Limits.{lastHour}
 use Rattle.ground.specs.Buffer.{onto, fitted, lengthOf, bufferAfter}
 use Rattle.ground.specs.Digits.{spelled}
@@ -22,34 +21,28 @@ use Rattle.fields.specs.Fields.{tab}
 use Rattle.fields.specs.Meaning.{tabbed}
 use Rattle.writer.specs.Writing.{hourText, hourWritten}
 use Rattle.writer.specs.Line.{frontAfter, placeAfter, heldAfter, fieldsAfter, Comes, bytesOf, bytesOfAll, lineWith, textsOf, lineMade, lineIn}
-use Rattle.writer.proofs.Writing.{length-of-text, written-exactly}
+use Rattle.writer.proofs.Writing.{length-of-text}
 
 -- what a field put behind a line so far comes to
 abbrev pub Puts : Read ℕ → Read (List ℕ) → ℕ → List ℕ → Read ℕ → List ℕ → Type 0
 Puts so-far field stop buffer answer held = (answer ≡ placeAfter so-far field stop buffer) × (held ≡ heldAfter so-far field stop buffer)
 
--- A field and its stop, put at a place.
-module _ (at : ℕ) (field : List ℕ) (stop : ℕ) (buffer : List ℕ) where
-  -- with no room they are refused by 7
-  pub line-short : length buffer ≤ at + length field → frontAfter (right at) (right field) stop buffer ≡ wrong 7
+-- A field and its stop, put at a place with room for them, stand behind the bytes before the place.
+module _ (at : ℕ) (field : List ℕ) (stop : ℕ) (buffer : List ℕ) (room : at + length field < length buffer) where
+  pub line-fits : frontAfter (right at) (right field) stop buffer ≡ right (take at buffer ++ field ++ stop ∷ [])
   unfolding frontAfter
-  line-short short = rw (le-ltb (at + length field) (length buffer) short)
+  line-fits = rw (lt-ltb (at + length field) (length buffer) room)
 
-  module _ (room : at + length field < length buffer) where
-    -- with room they stand behind the bytes before the place
-    pub line-fits : frontAfter (right at) (right field) stop buffer ≡ right (take at buffer ++ field ++ stop ∷ [])
-    unfolding frontAfter
-    line-fits = rw (lt-ltb (at + length field) (length buffer) room)
-
-    -- which are so many bytes
-    pub front-length : length (take at buffer ++ field ++ stop ∷ []) ≡ at + length field + 1
-    front-length = simp length-append (omega (arith, length-take-le at buffer (omega arith)))
+  -- which are so many bytes
+  pub front-length : length (take at buffer ++ field ++ stop ∷ []) ≡ at + length field + 1
+  front-length = simp length-append (omega (arith, length-take-le at buffer (omega arith)))
 
 -- a field of so many bytes and its stop, which have no room, are not put
 pub field-stays :
     (at : ℕ) (field : List ℕ) (stop : ℕ) (buffer : List ℕ) (size : ℕ) → size ≡ length field → length buffer ≤ at + size
     → Puts (right at) (right field) stop buffer (wrong 7) buffer
-field-stays at field stop buffer size counted short = rw (line-short at field stop buffer (omega arith)) (refl, refl)
+unfolding frontAfter
+field-stays at field stop buffer size counted short = rw (le-ltb (at + length field) (length buffer) (omega arith)) (refl, refl)
 
 -- a field of so many bytes and its stop have room from a place of a buffer on
 pub record Fits (at : ℕ) (field : List ℕ) (stop : ℕ) (buffer : List ℕ) (size : ℕ) : Type 0 where
@@ -95,8 +88,9 @@ hour-above hour above = rw (lt-leb hour lastHour above)
 pub hour-fills :
     (hour : ℕ) (part : List ℕ) → hour ≤ lastHour → length part ≡ length (hourText comma hour)
     → bufferAfter part (fitted part (hourWritten comma hour)) ≡ hourText comma hour
+unfolding fitted
 hour-fills hour part within sized =
-    rw (written-exactly comma hour part (hourText comma hour) .1 (within, omega arith, refl)) (onto-all (hourText comma hour) part (sym sized))
+    rw (hour-within hour within, le-leb (length (hourText comma hour)) (length part) (omega arith)) (onto-all (hourText comma hour) part (sym sized))
 
 -- the last of the fields put one behind the other has the line end behind it
 pub last-put :
@@ -137,29 +131,17 @@ hour-short hour =
 -- Fields put behind a text that stands at the front of a buffer with room for all of them.
 -- what the line comes to behind that text
 abbrev lineBehind : List ℕ → Read (List (List ℕ)) → Read (List ℕ)
-lineBehind front (wrong number) = wrong number
-lineBehind front (right texts) = right (front ++ lineWith texts)
+lineBehind front texts = texts >>= λ texts. right (front ++ lineWith texts)
 
 -- a field and its tab belong to what stands before the others
 one-more :
-    (front text first : List ℕ) (rest : Read (List (List ℕ)))
-    → lineBehind (front ++ text ++ tab ∷ []) (rest >>= λ texts. right (first ∷ texts))
-    ≡ lineBehind front ((rest >>= λ texts. right (first ∷ texts)) >>= λ texts. right (text ∷ texts))
+    (front text : List ℕ) (next : Read (List ℕ)) (rest : Read (List (List ℕ)))
+    → lineBehind (front ++ text ++ tab ∷ []) (next >>= λ first. rest >>= λ texts. right (first ∷ texts))
+    ≡ lineBehind front ((next >>= λ first. rest >>= λ texts. right (first ∷ texts)) >>= λ texts. right (text ∷ texts))
 unfolding tabbed
-one-more front text first (wrong number) = refl
-one-more front text first (right texts) = ap right (simp append-assoc)
-
-one-more-of :
-    (front text : List ℕ) (next : Read (List ℕ)) (fields : List (Read (List ℕ)))
-    → lineBehind (front ++ text ++ tab ∷ []) (textsOf (next ∷ fields)) ≡ lineBehind front (textsOf (right text ∷ next ∷ fields))
-unfolding textsOf
-one-more-of front text (wrong number) fields = refl
-one-more-of front text (right first) fields = one-more front text first (textsOf fields)
-
--- behind nothing it is the line with these fields
-behind-nothing : (texts : Read (List (List ℕ))) → lineBehind [] texts ≡ (texts >>= λ texts. right (lineWith texts))
-behind-nothing (wrong number) = refl
-behind-nothing (right texts) = refl
+one-more front text (wrong number) rest = refl
+one-more front text (right first) (wrong number) = refl
+one-more front text (right first) (right texts) = ap right (simp append-assoc)
 
 -- a field stands behind what stood at the front
 field-stands :
@@ -192,7 +174,7 @@ chained (right text) (next ∷ fields) front buffer stands room =
     let long : length more ≡ length front + length text + 1 = simp length-append (omega arith) in
     ap (λ line. lineOver (fieldsAfter (lengthOf line) (next ∷ fields) (bufferAfter buffer line))) (field-stands front buffer stands text tab (omega arith))
     ∙ chained next fields more (onto more buffer) (front-of-onto more buffer) (omega (arith, length-of-onto more buffer (omega arith)))
-    ∙ one-more-of front text next fields
+    ∙ one-more front text next (textsOf fields)
 
 -- a line's own buffer is as long as the room of a line, and what was checked before the first field refuses it too
 pub line-put :
@@ -203,7 +185,7 @@ unfolding lineIn lineMade
 line-put (wrong number) field fields buffer room comes =
     rw (comes .place, comes .holds) (ap lineOver (refused-on number (field ∷ fields) buffer))
 line-put (right met) field fields buffer room comes =
-    rw (comes .place, comes .holds) (chained field fields [] buffer refl (omega arith) ∙ behind-nothing (textsOf (field ∷ fields)))
+    rw (comes .place, comes .holds) (chained field fields [] buffer refl (omega arith))
 
 -- what `write_line` comes to, once the line in its own buffer is known
 pub line-written :

@@ -15,7 +15,7 @@ use Rattle.ground.specs.Refusal.{Read, wrong, right}
 use Rattle.ground.specs.Digits.{spelled}
 use Rattle.ground.specs.Buffer.{fitted, lengthOf, bufferAfter}
 use Rattle.ground.specs.Outcome.{Injective, Single}
-use Rattle.ground.proofs.Digits.{spelled-some, spelled-most, length-last-digits}
+use Rattle.ground.proofs.Digits.{spelled-some, spelled-most, spelled-below, length-last-digits}
 use Rattle.ground.proofs.Outcome.{single-value}
 use Rattle.hours.specs.Reading.{hourOf}
 use Rattle.fields.specs.Meaning.{allClean, Splits}
@@ -25,7 +25,6 @@ use Rattle.writer.specs.Meaning.{HourText, EndsIn, Writes, PutBehind}
 use Rattle.writer.specs.declared.Written.{Written}
 use Rattle.writer.specs.declared.Written.the-variants.{Length, Refused}
 use Rattle.writer.proofs.Writing as writing
-use Rattle.writer.proofs.Digits.{spelled-below, ends-in}
 use Rattle.writer.proofs.Line as line
 use Rattle.writer.proofs.Answers as answers
 use Rattle.writer.proofs.digit_count.Reads as digit-count
@@ -52,14 +51,14 @@ pub digit-count-means :
     (κs : Lfts 0) (number count : ℕ) (after : _) → digit-count.Learnt κs (number, tt) count after
     → (1 ≤ count) × ((most : ℕ) → (count ≤ suc most) ↔ (number < 10 ^ suc most))
 digit-count-means κs number count after learnt =
-    rw learnt (spelled-some number, λ most. (spelled-below most number, spelled-most most number))
+    rw learnt (spelled-some number, λ most. (spelled-below (suc most) number, spelled-most most number))
 
 -- digits that are put are the last of the number, as many as the buffer has bytes
 pub put-digits-means :
     (κs : Lfts 1) (number : ℕ) (buffer : _) (answer : _) (after : _) → put-digits.Learnt κs (number, (buffer, tt)) answer after
     → EndsIn number (now (after .1 .0)) × (length (now (after .1 .0)) ≡ length (now buffer))
 put-digits-means κs number buffer answer after learnt =
-    rw learnt (ends-in (length (now buffer)) number, length-last-digits (length (now buffer)) number)
+    rw learnt (writing.ends-in (length (now buffer)) number, length-last-digits (length (now buffer)) number)
 
 -- an hour's text is a plain whole part, the comma and two digits, and spells the hour
 pub hour-text : (hour : ℕ) → hour ≤ 999_999 → HourText hour (hourText 44 hour)

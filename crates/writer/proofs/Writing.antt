@@ -1,28 +1,26 @@
--- Laws of an hour's text and of what is written of it, over any decimal mark. Assumes nothing.
-use Prim.Native.Nat.{ℕ, _+_, _/_, _≤_}
+-- Laws of an hour's text, over any decimal mark, of what is written of it, and of a number's last digits. Assumes nothing.
+use Prim.Native.Nat.{ℕ, zero, suc, _+_, _/_, _≤_}
 use mathlib.Core.Path.{_≡_, refl, sym, ap, _∙_}
 use mathlib.Core.Bool.{false}
 use mathlib.Core.List.{List}
-use mathlib.Core.Logic.{_↔_, Iff·trans}
 use lib.ListN.{length, length-append, length-take}
 use lib.Dec.{leb}
 use native.Mathlib.Omega.{arith}
-use borrow.Author.Tests.{leb-true, le-leb}
+use borrow.Author.Tests.{le-leb}
 use Rattle.ground.specs.Refusal.{Read, right, check, _>>_}
 use Rattle.ground.specs.Limits.{lastHour}
-use Rattle.ground.specs.Digits.{lastDigit, spelled}
+use Rattle.ground.specs.Digits.{lastDigit, lastDigits, spelled}
 use Rattle.classes.specs.Classes.{isDigit}
 use Rattle.ground.specs.Buffer.{onto, fitted, lengthOf, bufferAfter}
 use Rattle.ground.proofs.Refusal.{never-right, same-right}
 use Rattle.ground.proofs.Digits.{last-is-digit, spelled-worth, spelled-plain}
-use Rattle.ground.proofs.Writing as writing
 use Rattle.ground.proofs.Buffer.{front-of-onto}
 use Rattle.hours.specs.Spelling.{Spells}
 use Rattle.hours.specs.Spelling.Spells.{hundredths}
 use Rattle.hours.specs.Reading.{hourOf}
 use Rattle.classes.specs.Classes.{comma}
 use Rattle.writer.specs.Writing.{hourText, hourWritten, asLength, frontOf, textIn}
-use Rattle.writer.specs.Meaning.{HourText}
+use Rattle.writer.specs.Meaning.{HourText, EndsIn, none, more}
 use Rattle.writer.specs.declared.Written.{Written}
 use Rattle.writer.specs.declared.Written.the-variants.{Length, Refused}
 use Rattle.hours.proofs.Spelling.{reads-exactly}
@@ -36,15 +34,6 @@ length-of-text mark hour = simp length-append
 pub tested : (mark hour : ℕ) → hourWritten mark hour ≡ (check (leb hour lastHour) 4 >> right (hourText mark hour))
 unfolding hourWritten
 tested mark hour = refl
-
--- the text is written exactly when the hour is in range and there is room
-pub written-exactly :
-    (mark hour : ℕ) (buffer bytes : List ℕ)
-    → (fitted buffer (hourWritten mark hour) ≡ right bytes)
-    ↔ ((hour ≤ lastHour) × (length (hourText mark hour) ≤ length buffer) × (bytes ≡ hourText mark hour))
-written-exactly mark hour buffer bytes =
-    Iff·trans (writing.written-exactly (leb hour lastHour) (hourText mark hour) buffer (hourWritten mark hour) (tested mark hour) bytes)
-    (λ facts. (leb-true _ _ (facts .0), facts .1, facts .2), λ facts. (le-leb _ _ (facts .0), facts .1, facts .2))
 
 -- an hour's text spells it
 text-spells : (mark hour : ℕ) → hour ≤ lastHour → Spells mark (hourText mark hour) hour
@@ -88,3 +77,9 @@ written-stands buffer text bytes (Length count) fits answered =
     let room : length bytes ≤ length (onto bytes buffer) = omega (arith, ap length (front-of-onto bytes buffer), length-take (length bytes) (onto bytes buffer)) in
     rw (fits, size, le-leb (length bytes) (length (onto bytes buffer)) room, front-of-onto bytes buffer)
 written-stands buffer text bytes (Refused number) fits answered = absurd (never-right (answered ∙ ap lengthOf fits))
+
+-- the last digits of a number are what it ends in
+pub ends-in : (count number : ℕ) → EndsIn number (lastDigits count number)
+unfolding lastDigits
+ends-in zero number = none number
+ends-in (suc count) number = more number (lastDigits count (number / 10)) (ends-in count (number / 10))

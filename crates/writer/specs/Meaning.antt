@@ -38,7 +38,8 @@ pub record Writes (Allowed : Type 0) (text buffer : List ℕ) (answer : Written)
   pub rest-stays : (count : ℕ) → answer ≡ Length count → (drop count held ≡ drop count buffer) × (length held ≡ length buffer)
 
 -- A field whose number is allowed, and the byte that stops it, are put behind a line so far: at its end, with the other bytes as they were.
-pub record PutBehind (so-far : Written) (Allowed : Type 0) (field : List ℕ) (stop : ℕ) (buffer : List ℕ) (answer : Written) (held : List ℕ) : Type 0 where
+pub record PutBehind (so-far : Written) (Allowed : Type 0) (field : List ℕ) (stop : ℕ) (buffer : List ℕ) (answer : Written)
+    (held : List ℕ) : Type 0 where
   -- once refused a line stays refused
   pub stays-refused : (number : ℕ) → so-far ≡ Refused number → (answer ≡ Refused number) × (held ≡ buffer)
   pub out-of-range : (at : ℕ) → so-far ≡ Length at → (Allowed → ⊥) → (answer ≡ Refused 4) × (held ≡ buffer)

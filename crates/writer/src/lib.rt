@@ -188,7 +188,8 @@ fn write_text(text: &[u8], buffer: &mut [u8]) -> Written
 // then refusal 7 where either buffer is shorter than the line.
 pub fn write_line(line: Written, own: &[u8], buffer: &mut [u8]) -> Written
     ensures { λ r. ⌜ asLength r ≡ lengthOf (fitted (now (buffer .entry)) (lineIn (asLength line) (now (own .entry)))) ⌝ }
-    ensures { λ r. ⌜ now (buffer .exit) ≡ bufferAfter (now (buffer .entry)) (fitted (now (buffer .entry)) (lineIn (asLength line) (now (own .entry)))) ⌝ }
+    ensures { λ r. ⌜ now (buffer .exit)
+        ≡ bufferAfter (now (buffer .entry)) (fitted (now (buffer .entry)) (lineIn (asLength line) (now (own .entry)))) ⌝ }
 {
     let Written::Length(count) = line else {
         return line;

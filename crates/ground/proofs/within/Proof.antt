@@ -3,8 +3,5 @@ use mathlib.Core.Path.{refl}
 use Rattle.ground.proofs.within.Statement.{statement}
 use Rattle.ground.proofs.within.Tie as tie
 
-returns : tie.Need-returns
-returns c = refl
-
 pub within-spec : {M : Type 1} → statement M
-within-spec = tie.close (tie.spec returns)
+within-spec = tie.close (tie.spec (λ c. refl))

@@ -3,15 +3,9 @@ use borrow.Author.Needs.{needs}
 use Rattle.hours.proofs.ended_plain.Statement.{statement}
 use Rattle.hours.proofs.ended_plain.Tie as tie
 
-returns : tie.Need-returns
-returns c = rw (c .enum-told .given .1)
-
-returns-2 : tie.Need-returns-2
-returns-2 c = rw (c .before .stage .given .1)
-
 pub ended-plain-spec : {M : Type 1} → statement M
 ended-plain-spec =
     tie.close
     (tie.spec (λ c. search needs) (λ c. search needs) (λ c. search needs) (λ c. search needs) (λ c. search needs)
-    (λ c. search needs) (λ c. search needs) returns returns-2 (λ c. search needs) (λ c. search needs)
-    (λ c. search needs) (λ c. search needs))
+    (λ c. search needs) (λ c. search needs) (λ c. rw (c .enum-told .given .1)) (λ c. rw (c .before .stage .given .1))
+    (λ c. search needs) (λ c. search needs) (λ c. search needs) (λ c. search needs))

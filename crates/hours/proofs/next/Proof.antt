@@ -3,15 +3,9 @@ use borrow.Author.Needs.{needs}
 use Rattle.hours.proofs.next.Statement.{statement}
 use Rattle.hours.proofs.next.Tie as tie
 
-returns : tie.Need-returns
-returns c = rw (c .next-at-digit .ensures, c .before .before .class .given .1)
-
-returns-5 : tie.Need-returns-5
-returns-5 c = rw (c .enum-told4 .given .1)
-
 pub next-spec : {M : Type 1} → statement M
 next-spec =
     tie.close
-    (tie.spec (λ c. search needs) (λ c κs. search needs) (λ c. search needs) (λ c κs. search needs)
-    (λ c. search needs) (λ c. search needs) (λ c. search needs) returns (λ c. search needs) (λ c. search needs)
-    (λ c. search needs) returns-5)
+    (tie.spec (λ c. search needs) (λ c κs. search needs) (λ c. search needs) (λ c κs. search needs) (λ c. search needs)
+    (λ c. search needs) (λ c. search needs) (λ c. rw (c .next-at-digit .ensures, c .before .before .class .given .1))
+    (λ c. search needs) (λ c. search needs) (λ c. search needs) (λ c. rw (c .enum-told4 .given .1)))

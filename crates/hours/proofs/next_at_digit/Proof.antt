@@ -3,21 +3,10 @@ use borrow.Author.Needs.{needs}
 use Rattle.hours.proofs.next_at_digit.Statement.{statement}
 use Rattle.hours.proofs.next_at_digit.Tie as tie
 
-returns : tie.Need-returns
-returns c = rw (c .enum-told .given .1)
-
-returns-2 : tie.Need-returns-2
-returns-2 c = rw (c .longer .ensures, c .before .before .stage .given .1)
-
-returns-3 : tie.Need-returns-3
-returns-3 c = rw (c .before .stage2 .given .1)
-
-returns-4 : tie.Need-returns-4
-returns-4 c = rw (c .before .stage3 .given .1)
-
 pub next-at-digit-spec : {M : Type 1} → statement M
 next-at-digit-spec =
     tie.close
     (tie.spec (λ c. search needs) (λ c. search needs) (λ c κs. search needs) (λ c. search needs) (λ c. search needs)
-    (λ c. search needs) (λ c. search needs) returns returns-2 returns-3 returns-4 (λ c. search needs)
-    (λ c. search needs))
+    (λ c. search needs) (λ c. search needs) (λ c. rw (c .enum-told .given .1))
+    (λ c. rw (c .longer .ensures, c .before .before .stage .given .1)) (λ c. rw (c .before .stage2 .given .1))
+    (λ c. rw (c .before .stage3 .given .1)) (λ c. search needs) (λ c. search needs))

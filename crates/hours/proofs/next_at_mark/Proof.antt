@@ -3,12 +3,9 @@ use borrow.Author.Needs.{needs}
 use Rattle.hours.proofs.next_at_mark.Statement.{statement}
 use Rattle.hours.proofs.next_at_mark.Tie as tie
 
-returns-2 : tie.Need-returns-2
-returns-2 c = rw (c .before .stage .given .1)
-
 pub next-at-mark-spec : {M : Type 1} → statement M
 next-at-mark-spec =
     tie.close
     (tie.spec (λ c. search needs) (λ c. search needs) (λ c. search needs) (λ c. search needs) (λ c. search needs)
-    (λ c. search needs) (λ c. search needs) returns-2 (λ c. search needs) (λ c. search needs) (λ c. search needs)
-    (λ c. search needs))
+    (λ c. search needs) (λ c. search needs) (λ c. rw (c .before .stage .given .1)) (λ c. search needs) (λ c. search needs)
+    (λ c. search needs) (λ c. search needs))

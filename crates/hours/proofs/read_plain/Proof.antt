@@ -4,9 +4,7 @@ use Rattle.hours.specs.Reading.{plainOf}
 use Rattle.hours.proofs.read_plain.Statement.{statement}
 use Rattle.hours.proofs.read_plain.Tie as tie
 
-returns : tie.Need-returns
-unfolding plainOf
-returns c = rw (c .ended-plain .ensures, c .before .scan .ensures)
-
 pub read-plain-spec : {M : Type 1} → statement M
-read-plain-spec = tie.close (tie.spec (λ c κs. search needs) (λ c κs. search needs) returns)
+unfolding plainOf
+read-plain-spec =
+    tie.close (tie.spec (λ c κs. search needs) (λ c κs. search needs) (λ c. rw (c .ended-plain .ensures, c .before .scan .ensures)))

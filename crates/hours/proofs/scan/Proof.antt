@@ -16,19 +16,13 @@ Inv-loop field stage₀ at₀ stage at = scanned comma stage (drop at field) ≡
 abbrev μ-loop : tie.MeasureT-loop
 μ-loop field stage₀ at₀ stage at = length field - at
 
-loop-holds : tie.Need-loop-holds Inv-loop μ-loop
-loop-holds c = refl
-
 loop-again : tie.Need-loop-again Inv-loop μ-loop
 loop-again c =
     let s = c .before .before .before .before in
     rw (c .next .ensures, c .before .class-of .ensures) (sym (scan-step comma (s .loop .stage) _ _ (c .before .before .before .loop-test .taken)) ∙ s .loop .inv)
 
-returns : tie.Need-returns Inv-loop μ-loop
-returns c = sym (scan-end comma _ _ _ (c .loop-test .left)) ∙ c .before .loop .inv
-
 pub scan-spec : {M : Type 1} → statement M
 scan-spec =
     tie.close
-    (tie.spec Inv-loop μ-loop loop-holds (λ c. search needs) (λ c κs. search needs) (λ c κs. search needs)
-    (λ c. search needs) (λ c. search needs) loop-again returns)
+    (tie.spec Inv-loop μ-loop (λ c. refl) (λ c. search needs) (λ c κs. search needs) (λ c κs. search needs) (λ c. search needs)
+    (λ c. search needs) loop-again (λ c. sym (scan-end comma _ _ _ (c .loop-test .left)) ∙ c .before .loop .inv))

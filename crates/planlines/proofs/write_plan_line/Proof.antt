@@ -23,7 +23,7 @@ returns c =
     (rw (b .begin-plan-line .ensures) at (p .put-plan-line .ensures))
     ∙ sym (line-of-fields (a .order) (a .chamber) (a .start)))
     (w .write-line .ensures) in
-    search (needs, written .0, written .1)
+    search needs
 
 pub write-plan-line-spec : {M : Type 1} → statement M
 write-plan-line-spec =

@@ -16,12 +16,8 @@ Inv-loop number left₀ count₀ left count =
 abbrev μ-loop : tie.MeasureT-loop
 μ-loop number left₀ count₀ left count = left
 
-loop-again : tie.Need-loop-again Inv-loop μ-loop
-loop-again c = omega (arith, length-tenfold (c .before .loop .left) (omega arith))
-
-returns : tie.Need-returns Inv-loop μ-loop
-returns c = omega (arith, length-one (c .before .loop .left) (omega arith))
-
 pub digit-count-spec : {M : Type 1} → statement M
 digit-count-spec =
-    tie.close (tie.spec Inv-loop μ-loop (λ c. search needs) (λ c. search needs) (λ c. search needs) loop-again returns)
+    tie.close
+    (tie.spec Inv-loop μ-loop (λ c. search needs) (λ c. search needs) (λ c. search needs)
+    (λ c. omega (arith, length-tenfold (c .before .loop .left) (omega arith))) (λ c. omega (arith, length-one (c .before .loop .left) (omega arith))))

@@ -15,13 +15,10 @@ same-test :
 same-test true at length room passed failed = sym (lt-ltb (at + length) room (passed refl))
 same-test false at length room passed failed = sym (le-ltb (at + length) room (failed refl))
 
-returns : tie.Need-returns
-returns c = let s = c .before .args in sym (le-ltb (s .at + s .length) (s .room) (omega arith))
-
-returns-2 : tie.Need-returns-2
-returns-2 c =
-    let s = c .before .args in
-    same-test _ (s .at) (s .length) (s .room) (λ passed. omega (arith, ltb-true, leb-true)) (λ failed. omega (arith, ltb-false, leb-false))
-
 pub has-room-spec : {M : Type 1} → statement M
-has-room-spec = tie.close (tie.spec returns (λ c. search needs) returns-2)
+has-room-spec =
+    tie.close
+    (tie.spec (λ c. let s = c .before .args in sym (le-ltb (s .at + s .length) (s .room) (omega arith))) (λ c. search needs)
+    (λ c.
+    let s = c .before .args in
+    same-test _ (s .at) (s .length) (s .room) (λ passed. omega (arith, ltb-true, leb-true)) (λ failed. omega (arith, ltb-false, leb-false))))

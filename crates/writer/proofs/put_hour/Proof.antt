@@ -5,12 +5,11 @@ use native.Mathlib.Omega.{arith}
 use borrow.Author.Tests.{ltb-true, ltb-false}
 use borrow.Author.Needs.{needs}
 use Rattle.ground.specs.Limits.{lastHour}
-use Rattle.ground.proofs.Digits.{spelled-short}
 use Rattle.classes.specs.Classes.{comma}
 use Rattle.writer.specs.Writing.{hourText}
 use Rattle.writer.specs.Line.{frontAfter}
 use Rattle.writer.proofs.Writing.{length-of-text}
-use Rattle.writer.proofs.Line.{field-stays, Fits, part-sized, field-put, hour-within, hour-above, hour-fills}
+use Rattle.writer.proofs.Line.{field-stays, Fits, part-sized, field-put, number-short, hour-within, hour-above, hour-fills}
 use Rattle.writer.proofs.put_hour.Statement.{statement}
 use Rattle.writer.proofs.put_hour.Tie as tie
 
@@ -29,31 +28,12 @@ fits-at c =
       room = ltb-true _ _ (sym (c .before .has-room .ensures) ∙ c .if2 .taken);
     }
 
-returns : tie.Need-returns
-unfolding frontAfter
-returns c = rw (c .enum-told .given .1) (refl, refl)
-
 returns-2 : tie.Need-returns-2
 unfolding frontAfter
 returns-2 c =
     let p = c .before .before in
     let a = p .before .before .before .args in
     rw (p .so-far .given .1, hour-above (a .hour) (omega (arith, c .if1 .taken))) (refl, refl)
-
-add-length : tie.Need-add-length
-add-length c = omega (arith, spelled-short (c .before .before .before .before .before .before .args .hour / 100))
-
-add-hour-end : tie.Need-add-hour-end
-add-hour-end c = omega (arith, fits-at c .room)
-
-part-write-hour-end : tie.Need-part-write-hour-end
-part-write-hour-end c = omega (arith, fits-at c .room)
-
-slice-write-buffer : tie.Need-slice-write-buffer
-slice-write-buffer c = omega (arith, fits-at (c .before .before .before .before) .room)
-
-add-past : tie.Need-add-past
-add-past c = omega (arith, fits-at (c .before .before .before .before) .room)
 
 returns-3 : tie.Need-returns-3
 returns-3 c =
@@ -69,15 +49,16 @@ returns-4 : tie.Need-returns-4
 returns-4 c =
     let d = c .before .before in
     let p = d .before .before .before in
-    let a = p .before .before .before .args in
-    rw (p .so-far .given .1, hour-within (a .hour) (omega (arith, d .before .if1 .left)))
-    (field-stays (p .so-far .given .0 .0) (hourText comma (a .hour)) (a .stop) (a .buffer .now) (d .digit-count .result + 3)
-    (omega (arith, length-of-text comma (a .hour), d .digit-count .ensures))
-    (ltb-false _ _ (sym (c .before .has-room .ensures) ∙ c .if2 .left)))
+    let hour = p .before .before .before .args .hour in
+    rw (p .so-far .given .1, hour-within hour (omega (arith, d .before .if1 .left)))
+    (field-stays _ _ _ _ _ (omega (arith, length-of-text comma hour, d .digit-count .ensures)) (ltb-false _ _ (sym (c .before .has-room .ensures) ∙ c .if2 .left)))
 
 pub put-hour-spec : {M : Type 1} → statement M
+unfolding frontAfter
 put-hour-spec =
     tie.close
-    (tie.spec (λ c. search needs) (λ c. search needs) returns returns-2 (λ c κs. search needs) add-length
-    (λ c κs. search needs) add-hour-end (λ c. search needs) (λ c. search needs) part-write-hour-end
-    (λ c κs. search needs) slice-write-buffer add-past (λ c. search needs) returns-3 returns-4)
+    (tie.spec (λ c. search needs) (λ c. search needs) (λ c. rw (c .enum-told .given .1) (refl, refl)) returns-2 (λ c κs. search needs)
+    (λ c. omega (arith, number-short (c .before .before .before .before .before .before .args .hour / 100) (omega arith)))
+    (λ c κs. search needs) (λ c. omega (arith, fits-at c .room)) (λ c. search needs) (λ c. search needs)
+    (λ c. omega (arith, fits-at c .room)) (λ c κs. search needs) (λ c. omega (arith, fits-at (c .before .before .before .before) .room))
+    (λ c. omega (arith, fits-at (c .before .before .before .before) .room)) (λ c. search needs) returns-3 returns-4)

@@ -19,22 +19,6 @@ fits-at :
     Fits (p .so-far .given .0 .0) (spelled (a .number)) (a .stop) (a .buffer .now) (d .digit-count .result)
 fits-at c = record { counted = c .before .before .digit-count .ensures; room = ltb-true _ _ (sym (c .before .has-room .ensures) ∙ c .if1 .taken) }
 
-returns : tie.Need-returns
-unfolding frontAfter
-returns c = rw (c .enum-told .given .1) (refl, refl)
-
-add-digits-end : tie.Need-add-digits-end
-add-digits-end c = omega (arith, fits-at c .room)
-
-part-put-digits-end : tie.Need-part-put-digits-end
-part-put-digits-end c = omega (arith, fits-at c .room)
-
-slice-write-buffer : tie.Need-slice-write-buffer
-slice-write-buffer c = omega (arith, fits-at (c .before .before .before .before) .room)
-
-add-past : tie.Need-add-past
-add-past c = omega (arith, fits-at (c .before .before .before .before) .room)
-
 returns-2 : tie.Need-returns-2
 returns-2 c =
     let t = c .before .before .before .before in
@@ -47,15 +31,14 @@ returns-2 c =
 returns-3 : tie.Need-returns-3
 returns-3 c =
     let d = c .before .before in
-    let p = d .before .before in
-    let a = p .before .before .before .args in
-    rw (p .so-far .given .1)
-    (field-stays (p .so-far .given .0 .0) (spelled (a .number)) (a .stop) (a .buffer .now) (d .digit-count .result) (d .digit-count .ensures)
-    (ltb-false _ _ (sym (c .before .has-room .ensures) ∙ c .if1 .left)))
+    rw (d .before .before .so-far .given .1)
+    (field-stays _ _ _ _ _ (d .digit-count .ensures) (ltb-false _ _ (sym (c .before .has-room .ensures) ∙ c .if1 .left)))
 
 pub put-number-spec : {M : Type 1} → statement M
+unfolding frontAfter
 put-number-spec =
     tie.close
-    (tie.spec (λ c. search needs) (λ c. search needs) returns (λ c κs. search needs) (λ c κs. search needs)
-    add-digits-end (λ c. search needs) (λ c. search needs) part-put-digits-end (λ c κs. search needs)
-    slice-write-buffer add-past (λ c. search needs) returns-2 returns-3)
+    (tie.spec (λ c. search needs) (λ c. search needs) (λ c. rw (c .enum-told .given .1) (refl, refl)) (λ c κs. search needs)
+    (λ c κs. search needs) (λ c. omega (arith, fits-at c .room)) (λ c. search needs) (λ c. search needs)
+    (λ c. omega (arith, fits-at c .room)) (λ c κs. search needs) (λ c. omega (arith, fits-at (c .before .before .before .before) .room))
+    (λ c. omega (arith, fits-at (c .before .before .before .before) .room)) (λ c. search needs) returns-2 returns-3)

@@ -17,25 +17,6 @@ fits-at :
     Fits (p .so-far .given .0 .0) (a .word .now) (a .stop) (a .buffer .now) (length (a .word .now))
 fits-at c = record { counted = refl; room = ltb-true _ _ (sym (c .before .has-room .ensures) ∙ c .if1 .taken) }
 
-returns : tie.Need-returns
-unfolding frontAfter
-returns c = rw (c .enum-told .given .1) (refl, refl)
-
-add-word-end : tie.Need-add-word-end
-add-word-end c = omega (arith, fits-at c .room)
-
-part-copy-end : tie.Need-part-copy-end
-part-copy-end c = omega (arith, fits-at c .room)
-
-copy-requires : tie.Need-copy-requires
-copy-requires c κs = part-sized (fits-at (c .before))
-
-slice-write-buffer : tie.Need-slice-write-buffer
-slice-write-buffer c = omega (arith, fits-at (c .before .before .before .before) .room)
-
-add-past : tie.Need-add-past
-add-past c = omega (arith, fits-at (c .before .before .before .before) .room)
-
 returns-2 : tie.Need-returns-2
 returns-2 c =
     let t = c .before .before .before .before in
@@ -43,15 +24,13 @@ returns-2 c =
 
 returns-3 : tie.Need-returns-3
 returns-3 c =
-    let p = c .before .before .before in
-    let a = p .before .before .before .before .args in
-    rw (p .so-far .given .1)
-    (field-stays (p .so-far .given .0 .0) (a .word .now) (a .stop) (a .buffer .now) (length (a .word .now)) refl
-    (ltb-false _ _ (sym (c .before .has-room .ensures) ∙ c .if1 .left)))
+    rw (c .before .before .before .so-far .given .1) (field-stays _ _ _ _ _ refl (ltb-false _ _ (sym (c .before .has-room .ensures) ∙ c .if1 .left)))
 
 pub put-word-spec : {M : Type 1} → statement M
+unfolding frontAfter
 put-word-spec =
     tie.close
-    (tie.spec (λ c. search needs) (λ c. search needs) returns (λ c κs. search needs) add-word-end (λ c. search needs)
-    (λ c. search needs) part-copy-end copy-requires slice-write-buffer add-past (λ c. search needs) returns-2
-    returns-3)
+    (tie.spec (λ c. search needs) (λ c. search needs) (λ c. rw (c .enum-told .given .1) (refl, refl)) (λ c κs. search needs)
+    (λ c. omega (arith, fits-at c .room)) (λ c. search needs) (λ c. search needs) (λ c. omega (arith, fits-at c .room))
+    (λ c κs. part-sized (fits-at (c .before))) (λ c. omega (arith, fits-at (c .before .before .before .before) .room))
+    (λ c. omega (arith, fits-at (c .before .before .before .before) .room)) (λ c. search needs) returns-2 returns-3)

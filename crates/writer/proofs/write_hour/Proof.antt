@@ -9,11 +9,12 @@ use native.Mathlib.Omega.{arith}
 use borrow.Author.Needs.{needs}
 use Rattle.ground.specs.Limits.{lastHour}
 use Rattle.ground.specs.Digits.{lastDigits, spelled}
-use Rattle.ground.proofs.Digits.{spelled-short, last-digits-spelled}
+use Rattle.ground.proofs.Digits.{last-digits-spelled}
 use Rattle.ground.proofs.Writing.{Checked, refused, has-room, filled}
 use Rattle.classes.specs.Classes.{comma}
 use Rattle.writer.specs.Writing.{hourText, hourWritten}
 use Rattle.writer.proofs.Writing.{length-of-text, tested}
+use Rattle.writer.proofs.Line.{number-short}
 use Rattle.writer.proofs.write_hour.Statement.{statement}
 use Rattle.writer.proofs.write_hour.Tie as tie
 
@@ -44,21 +45,6 @@ known-at c =
 room-at : (c : tie.Else1) → c .before .before .digit-count .result + 3 ≤ length (c .before .before .before .before .args .buffer .now)
 room-at c = has-room (known-at (c .before)) (omega arith)
 
-add-length : tie.Need-add-length
-add-length c = omega (arith, spelled-short (c .before .before .args .hour / 100))
-
-returns : tie.Need-returns
-returns c = refused (known-at (c .before)) (λ none. omega arith)
-
-slice-relend-prefix-fill-hour : tie.Need-slice-relend-prefix-fill-hour
-slice-relend-prefix-fill-hour c = omega (arith, room-at c)
-
-slice-aggregate-fill-hour : tie.Need-slice-aggregate-fill-hour
-slice-aggregate-fill-hour c = sym (length-take-le _ _ (omega (arith, room-at (c .before))))
-
-fill-hour-requires : tie.Need-fill-hour-requires
-fill-hour-requires c κs = simp length-take (omega (arith, room-at (c .before)))
-
 returns-2 : tie.Need-returns-2
 returns-2 c =
     let k = c .before .before .before .before .before in
@@ -70,5 +56,7 @@ returns-2 c =
 pub write-hour-spec : {M : Type 1} → statement M
 write-hour-spec =
     tie.close
-    (tie.spec (λ c κs. search needs) add-length (λ c κs. search needs) returns slice-relend-prefix-fill-hour
-    slice-aggregate-fill-hour fill-hour-requires (λ c. search needs) returns-2)
+    (tie.spec (λ c κs. search needs) (λ c. omega (arith, number-short (c .before .before .args .hour / 100) (omega arith)))
+    (λ c κs. search needs) (λ c. refused (known-at (c .before)) (λ none. omega arith)) (λ c. omega (arith, room-at c))
+    (λ c. sym (length-take-le _ _ (omega (arith, room-at (c .before))))) (λ c κs. simp length-take (omega (arith, room-at (c .before))))
+    (λ c. search needs) returns-2)

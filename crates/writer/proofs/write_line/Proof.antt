@@ -10,20 +10,6 @@ use Rattle.writer.specs.Line.{lineIn}
 use Rattle.writer.proofs.write_line.Statement.{statement}
 use Rattle.writer.proofs.write_line.Tie as tie
 
-returns : tie.Need-returns
-unfolding lineIn fitted
-returns c = rw (c .enum-told .given .1) (refl, refl)
-
-returns-2 : tie.Need-returns-2
-unfolding lineIn fitted
-returns-2 c =
-    let p = c .before .before in
-    let a = p .before .before .before .before .args in
-    rw (p .line .given .1, lt-leb (p .line .given .0 .0) (length (a .own .now)) (omega (arith, c .if1 .taken))) (refl, refl)
-
-slice-aggregate-write-text : tie.Need-slice-aggregate-write-text
-slice-aggregate-write-text c = sym (length-take-le _ _ (omega (arith, c .before .if1 .left)))
-
 returns-3 : tie.Need-returns-3
 unfolding lineIn
 returns-3 c =
@@ -34,7 +20,12 @@ returns-3 c =
     rw (p .line .given .1, le-leb (p .line .given .0 .0) (length (a .own .now)) (omega (arith, e .if1 .left))) (w .write-text .ensures)
 
 pub write-line-spec : {M : Type 1} → statement M
+unfolding lineIn fitted
 write-line-spec =
     tie.close
-    (tie.spec (λ c. search needs) (λ c. search needs) returns returns-2 slice-aggregate-write-text
-    (λ c κs. search needs) (λ c. search needs) returns-3)
+    (tie.spec (λ c. search needs) (λ c. search needs) (λ c. rw (c .enum-told .given .1) (refl, refl))
+    (λ c.
+    let p = c .before .before in
+    let a = p .before .before .before .before .args in
+    rw (p .line .given .1, lt-leb (p .line .given .0 .0) (length (a .own .now)) (omega (arith, c .if1 .taken))) (refl, refl))
+    (λ c. sym (length-take-le _ _ (omega (arith, c .before .if1 .left)))) (λ c κs. search needs) (λ c. search needs) returns-3)

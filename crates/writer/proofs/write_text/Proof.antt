@@ -9,25 +9,14 @@ use Rattle.ground.specs.Buffer.{onto, fitted}
 use Rattle.writer.proofs.write_text.Statement.{statement}
 use Rattle.writer.proofs.write_text.Tie as tie
 
-returns : tie.Need-returns
-unfolding fitted
-returns c =
-    let a = c .before .before .before .args in rw (lt-leb (length (a .text .now)) (length (a .buffer .now)) (omega arith)) (refl, refl)
-
-slice-aggregate-copy : tie.Need-slice-aggregate-copy
-slice-aggregate-copy c = sym (length-take-le _ _ (omega arith))
-
-copy-requires : tie.Need-copy-requires
-copy-requires c κs = length-take-le _ _ (omega arith)
-
-returns-2 : tie.Need-returns-2
-unfolding fitted onto
-returns-2 c =
-    let e = c .before .before .before .before in
-    let a = e .before .before .before .args in
-    rw (le-leb (length (a .text .now)) (length (a .buffer .now)) (omega (arith, e .if1 .left)), c .before .before .copy .ensures) (refl, refl)
-
 pub write-text-spec : {M : Type 1} → statement M
+unfolding fitted onto
 write-text-spec =
     tie.close
-    (tie.spec returns (λ c. search needs) slice-aggregate-copy copy-requires (λ c. search needs) returns-2)
+    (tie.spec
+    (λ c. let a = c .before .before .before .args in rw (lt-leb (length (a .text .now)) (length (a .buffer .now)) (omega arith)) (refl, refl))
+    (λ c. search needs) (λ c. sym (length-take-le _ _ (omega arith))) (λ c κs. length-take-le _ _ (omega arith)) (λ c. search needs)
+    (λ c.
+    let e = c .before .before .before .before in
+    let a = e .before .before .before .args in
+    rw (le-leb (length (a .text .now)) (length (a .buffer .now)) (omega (arith, e .if1 .left)), c .before .before .copy .ensures) (refl, refl)))
