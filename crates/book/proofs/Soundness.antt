@@ -3,7 +3,7 @@ use Prim.Native.Nat.{ℕ, zero, suc, _+_, _-_, _≤_, _<_}
 use mathlib.Core.Path.{_≡_, refl}
 use mathlib.Core.Bool.{Bool, true, false}
 use mathlib.Core.List.{List, [], _∷_}
-use lib.ListN.{length, getD, drop, replicate, drop-of-length-le, length-replicate}
+use lib.ListN.{length, getD, drop, drop-of-length-le, length-replicate}
 use lib.Seq.{drop-cons, getD-drop}
 use lib.Dec.{leb}
 use native.Mathlib.Numerals.{add-one}
@@ -12,6 +12,7 @@ use borrow.Author.Tests.{leb-true, le-leb, lt-leb}
 use Rattle.ground.specs.Limits.{mostChambers, longestRun}
 use Rattle.ground.proofs.Tests.{both, first-of, second-of}
 use Rattle.ground.proofs.Range.{within-from, within-low, within-high}
+use Rattle.ground.proofs.Buffer.{zeros-at}
 use Rattle.book.specs.Soundness.{lastFreeHour, allUpTo, allMet, soundness, isSound, freshBook}
 use Rattle.book.specs.Meaning.{Sound, Openable, Fresh}
 use Rattle.book.specs.declared.Book.{Book}
@@ -91,12 +92,6 @@ sound-from book facts =
     (both (all-hours lastFreeHour (book .free) (facts .hours-most))
     (both (le-leb _ _ (facts .kept-most)) (both (le-leb _ _ (facts .taken-most)) (both (all-zero (book .chambers) (book .free) (facts .others-free)) refl))))))
 
--- every chamber is free from hour 0
-none-yet : (count place : ℕ) → _≡_ {A = ℕ} (getD (replicate count 0) place 0) 0
-none-yet zero place = refl
-none-yet (suc count) zero = refl
-none-yet (suc count) (suc place) = none-yet count place
-
 -- the book that is opened is fresh
 pub fresh-book : (chambers run : ℕ) → Fresh chambers run (freshBook chambers run)
 fresh-book chambers run =
@@ -107,7 +102,7 @@ fresh-book chambers run =
       none-taken = refl;
       none-kept = refl;
       eight-hours = length-replicate {A = ℕ} mostChambers 0;
-      hours-zero = none-yet mostChambers;
+      hours-zero = zeros-at mostChambers;
     }
 
 -- a fresh book with its numbers in range is sound
@@ -117,8 +112,8 @@ fresh-sound chambers run inside =
       chambers-range = (inside .0, inside .1);
       run-range = (inside .2, inside .3);
       clock-most = omega arith;
-      hours-most = λ place. omega (arith, none-yet mostChambers place);
+      hours-most = λ place. omega (arith, zeros-at mostChambers place);
       kept-most = omega arith;
       taken-most = omega arith;
-      others-free = λ place above. none-yet mostChambers place;
+      others-free = λ place above. zeros-at mostChambers place;
     }

@@ -1,8 +1,8 @@
--- Laws of what is written to a buffer. Assumes nothing.
-use Prim.Native.Nat.{ℕ, _+_, _-_, _≤_, _<_}
-use mathlib.Core.Path.{_≡_}
+-- Laws of what is written to a buffer, and of a buffer of zeros. Assumes nothing.
+use Prim.Native.Nat.{ℕ, zero, suc, _+_, _-_, _≤_, _<_}
+use mathlib.Core.Path.{_≡_, refl}
 use mathlib.Core.List.{List, [], _∷_, _++_, append-assoc, append-nil}
-use lib.ListN.{length, getD, take, drop, set, length-append, length-drop}
+use lib.ListN.{length, getD, take, drop, set, replicate, length-append, length-drop}
 use lib.Seq.{drop-length, take-append-seam, drop-append-seam, drop-cons, drop-drop, set-append-seam, take-suc, take-suc-set}
 use borrow.Rule.Slice.PartMut.{putMid}
 use native.Mathlib.Numerals.{add-one}
@@ -51,3 +51,9 @@ pub copy-step :
     (text buffer : List ℕ) (at : ℕ) → at < length text → at < length buffer → take at buffer ≡ take at text
     → take (at + 1) (set buffer at (getD text at 0)) ≡ take (at + 1) text
 copy-step text buffer at inside room same = rw (add-one, take-suc-set buffer at _ room, take-suc text at 0 inside, same)
+
+-- a buffer of zeros has nothing else
+pub zeros-at : (count place : ℕ) → _≡_ {A = ℕ} (getD (replicate count 0) place 0) 0
+zeros-at zero place = refl
+zeros-at (suc count) zero = refl
+zeros-at (suc count) (suc place) = zeros-at count place

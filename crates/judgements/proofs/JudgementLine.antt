@@ -5,7 +5,7 @@ use mathlib.Core.Path.{_≡_, refl, sym, ap, _∙_}
 use mathlib.Core.Bool.{Bool, true, false}
 use mathlib.Core.List.{List, [], _∷_, head-eq-of-cons-eq, tail-eq-of-cons-eq}
 use mathlib.Core.Logic.{_↔_}
-use lib.ListN.{length}
+use lib.ListN.{length, length-append}
 use native.Mathlib.Omega.{arith}
 use Rattle.ground.specs.Refusal.{Or, wrong, right}
 use Rattle.ground.specs.Digits.{spelled}
@@ -14,9 +14,9 @@ use Rattle.ground.specs.Text.{bytes}
 use Rattle.ground.proofs.Tests.{both, never-both}
 use Rattle.ground.proofs.Refusal.{never-right}
 use Rattle.ground.proofs.Promises.{spelled-exactly}
-use Rattle.fields.specs.Meaning.{isClean, allClean}
+use Rattle.fields.specs.Meaning.{isClean, allClean, tabbed}
 use Rattle.fields.proofs.Promises.{one-split}
-use Rattle.writer.specs.Line.{textsOf, lineMade}
+use Rattle.writer.specs.Line.{textsOf, lineMade, bytesOfAll, lineRoom}
 use Rattle.writer.proofs.Promises.{line-splits}
 use Rattle.planlines.proofs.RoundTrip.{clean-number}
 use Rattle.plans.specs.Judging.{judged, asJudged}
@@ -38,6 +38,12 @@ pub judgement-of-fields : (judged : Judgement) → right (judgementLine judged) 
 unfolding outcomeLine textsOf lineMade
 judgement-of-fields (judgement.Right count) = refl
 judgement-of-fields (judgement.Wrong fault) = refl
+
+-- and no longer than they are
+pub judgement-fits : (judged : Judgement) → bytesOfAll (judgementPut judged) ≤ lineRoom → length (judgementLine judged) ≤ lineRoom
+unfolding outcomeLine bytesOfAll tabbed
+judgement-fits (judgement.Right count) room = simp length-append (omega arith)
+judgement-fits (judgement.Wrong fault) room = simp length-append (omega arith)
 
 -- and the line for two texts is that of the judgement that they have
 pub checked-of : (list plan : List ℕ) (given : Judgement) → asJudged given ≡ judged list plan → checkedLine list plan ≡ judgementLine given

@@ -1,6 +1,6 @@
 -- What this room promises, of the answers themselves and of the lines that they are about. Each is a line over a law of this folder or of
 -- the writer. Assumes nothing.
-use Prim.Native.Nat.{ℕ}
+use Prim.Native.Nat.{ℕ, _≤_}
 use mathlib.Core.Path.{_≡_, refl, sym, _∙_}
 use mathlib.Core.Bool.{Bool, true}
 use mathlib.Core.List.{List}
@@ -70,7 +70,18 @@ pub checked-writes :
     → Writes (Unit {0}) (checkedLine (now list) (now plan)) (now buffer) answer (now (after .1 .1 .0))
 checked-writes κs list plan buffer answer after learnt =
     answers.writes true (Unit {0}) answers.always (checkedLine (now list) (now plan)) (now buffer) (right (checkedLine (now list) (now plan))) refl answer
-    (now (after .1 .1 .0)) (learnt .0) (learnt .1)
+    (now (after .1 .1 .0)) (learnt .0) (learnt .1 .0)
+
+-- and it has room in 48 bytes, so that it is never refused there; so has the line of any judgement
+pub checked-fits :
+    (κs : Lfts 3) (list plan buffer : _) (answer : Written) (after : _) → write-checked.Learnt κs (list, (plan, (buffer, tt))) answer after
+    → length (checkedLine (now list) (now plan)) ≤ 48
+checked-fits κs list plan buffer answer after learnt = learnt .1 .1
+
+pub judgement-fits :
+    (κs : Lfts 1) (judgement : Judgement) (buffer : _) (answer : Written) (after : _) → write-judgement.Learnt κs (judgement, (buffer, tt)) answer after
+    → length (judgementLine judgement) ≤ 48
+judgement-fits κs judgement buffer answer after learnt = learnt .1 .1
 
 -- 1b, 1c: a judgement is refused by 7 exactly when its line is longer than the buffer, and every byte stays; in every other case its line
 -- stands at the front, every other byte stays, and its length is answered
@@ -79,15 +90,15 @@ pub judgement-writes :
     → Writes (Unit {0}) (judgementLine judgement) (now buffer) answer (now (after .1 .0))
 judgement-writes κs judgement buffer answer after learnt =
     answers.writes true (Unit {0}) answers.always (judgementLine judgement) (now buffer) (right (judgementLine judgement)) refl answer (now (after .1 .0))
-    (learnt .0) (learnt .1)
+    (learnt .0) (learnt .1 .0)
 
 -- 1d: each public function's contract admits a single outcome
 pub write-judgement-single :
     (κs : Lfts 1) (judgement : Judgement) (buffer : _) (one other : Written) (held kept : _) → write-judgement.Learnt κs (judgement, (buffer, tt)) one held
     → write-judgement.Learnt κs (judgement, (buffer, tt)) other kept → (one ≡ other) × (now (held .1 .0) ≡ now (kept .1 .0))
-write-judgement-single κs judgement buffer one other held kept p q = answers.single one other (p .0) (q .0) (p .1 ∙ sym (q .1))
+write-judgement-single κs judgement buffer one other held kept p q = answers.single one other (p .0) (q .0) (p .1 .0 ∙ sym (q .1 .0))
 
 pub write-checked-single :
     (κs : Lfts 3) (list plan buffer : _) (one other : Written) (held kept : _) → write-checked.Learnt κs (list, (plan, (buffer, tt))) one held
     → write-checked.Learnt κs (list, (plan, (buffer, tt))) other kept → (one ≡ other) × (now (held .1 .1 .0) ≡ now (kept .1 .1 .0))
-write-checked-single κs list plan buffer one other held kept p q = answers.single one other (p .0) (q .0) (p .1 ∙ sym (q .1))
+write-checked-single κs list plan buffer one other held kept p q = answers.single one other (p .0) (q .0) (p .1 .0 ∙ sym (q .1 .0))

@@ -2,6 +2,7 @@
 // Any judgement, any texts and any buffer may come. Assumes nothing.
 ghost use mathlib.Core.Path.{_≡_};
 ghost use Prim.Native.Nat.{_≤_};
+ghost use lib.ListN.{length};
 ghost use Rattle.ground.specs.Refusal.{right};
 ghost use Rattle.ground.specs.Buffer.{fitted, lengthOf, bufferAfter};
 ghost use Rattle.fields.specs.Fields.{tab};
@@ -65,6 +66,7 @@ pub fn write_judgement(judgement: Judgement, buffer: &mut [u8]) -> Written
     ensures { λ r. ⌜ asLength r ≡ lengthOf (fitted (now (buffer .entry)) (right (judgementLine judgement))) ⌝ }
     ensures { λ r. ⌜ now (buffer .exit)
         ≡ bufferAfter (now (buffer .entry)) (fitted (now (buffer .entry)) (right (judgementLine judgement))) ⌝ }
+    ensures { λ r. ⌜ length (judgementLine judgement) ≤ lineRoom ⌝ }
 {
     let mut own = [0u8; LINE_ROOM];
     let line = put_judgement(judgement, &mut own);
@@ -76,6 +78,7 @@ pub fn write_checked(list: &[u8], plan: &[u8], buffer: &mut [u8]) -> Written
     ensures { λ r. ⌜ asLength r ≡ lengthOf (fitted (now (buffer .entry)) (right (checkedLine (now (list .entry)) (now (plan .entry))))) ⌝ }
     ensures { λ r. ⌜ now (buffer .exit)
         ≡ bufferAfter (now (buffer .entry)) (fitted (now (buffer .entry)) (right (checkedLine (now (list .entry)) (now (plan .entry))))) ⌝ }
+    ensures { λ r. ⌜ length (checkedLine (now (list .entry)) (now (plan .entry))) ≤ lineRoom ⌝ }
 {
     let judgement = judge(list, plan);
     write_judgement(judgement, buffer)

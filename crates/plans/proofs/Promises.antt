@@ -32,7 +32,7 @@ use Rattle.plans.proofs.Judged as judging
 use Rattle.plans.proofs.Loads as loads
 use Rattle.plans.proofs.Faults as faults
 use Rattle.plans.proofs.Front as front
-use Rattle.plans.proofs.Showing.{part-shown}
+use Rattle.plans.proofs.Showing as showing
 
 -- 2f: right with a number exactly when the plan obeys the list, and that is the number of plan lines
 pub right-exactly : (list plan : List ℕ) (count : ℕ) → (judged list plan ≡ right count) ↔ (Obeys list plan × (count ≡ length (linesOf plan)))
@@ -137,11 +137,12 @@ line-at-fault-single κs list plan fault after one other p q =
     by-test (fault .plan) (λ inside. one-part plan one other _ (p .0) (q .0) (p .1 .in-plan inside) (q .1 .in-plan inside))
     (λ outside. one-part list one other _ (p .0) (q .0) (p .1 .in-list outside) (q .1 .in-list outside))
 
--- the line at fault lies in the text that it stands in: at the fault's place, or as the empty front
+-- the line at fault, of whatever fault, is the part of the text that it stands in between the fault's places, and lies there; else the
+-- empty front
 pub line-at-fault-lies :
     (κs : Lfts 1) (list plan part : _) (fault : Fault) (after : _) → at-fault.Learnt κs (list, (plan, (fault, tt))) part after
     → (fault .plan ≡ true → PartShown fault plan part) × (fault .plan ≡ false → PartShown fault list part)
 line-at-fault-lies κs list plan part fault after learnt = (
-  λ inside. part-shown fault plan part (learnt .1 .in-plan inside),
-  λ outside. part-shown fault list part (learnt .1 .in-list outside),
+  showing.shown-of-plan fault list plan part (learnt .0) (learnt .1),
+  showing.shown-of-list fault list plan part (learnt .0) (learnt .1),
 )

@@ -114,9 +114,10 @@ pub record RightBefore (list plan : List ℕ) (fault : Fault) (line : List ℕ) 
   pub before : Obeys list (part .front)
   pub counted : 1 + length (before .lines) ≡ fault .line
 
--- "the line at fault shown as a part of the text it stands in": it lies in the memory of that text, from the fault's place on where its
--- places are places of the text in order, and else it is the empty front
-abbrev pub PartShown : Fault → RefT (List ℕ) → RefT (List ℕ) → Type 0
-PartShown fault text part =
-    let in-order = (fault .from ≤ fault .to) × (fault .to ≤ length (now text)) in
-    (in-order → LiesAt part text (fault .from)) × ((in-order → ⊥) → LiesAt part text 0)
+-- "the line at fault shown as a part of the text it stands in": of whatever fault, the part between its places, which lies there, where
+-- these are places of the text in order, and else the empty front
+pub record PartShown (fault : Fault) (text part : RefT (List ℕ)) : Type 0 where
+  pub in-order :
+      fault .from ≤ fault .to → fault .to ≤ length (now text)
+      → Between (now text) (now part) (fault .from) (fault .to) × LiesAt part text (fault .from)
+  pub else-front : (fault .from ≤ fault .to → fault .to ≤ length (now text) → ⊥) → (now part ≡ []) × LiesAt part text 0

@@ -159,14 +159,14 @@ fn note_load(line: &[u8], book: Book, readies: &[u32], dues: &[u32], lines: &[u3
 fn plan_fault(number: u32, line: u32, from: usize, to: usize) -> Judgement
     ensures { λ r. ⌜ asJudged r ≡ wrong (record { number = number; plan = true; line = line; from = from; to = to }) ⌝ }
 {
-    let fault = Fault {
+    let in_plan = Fault {
         number,
         plan: true,
         line,
         from,
         to,
     };
-    Judgement::Wrong(fault)
+    Judgement::Wrong(in_plan)
 }
 
 // The loads of a plan, for a list that begins with this book and has orders of these hours: each plan line is noted, and the first earlier

@@ -5,6 +5,7 @@ pub mod ReplyText
 pub mod Fields
 pub mod Filling
 pub mod Pieces
+pub mod Due
 pub mod Sums
 pub mod Whole
 pub mod Room

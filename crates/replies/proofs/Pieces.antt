@@ -54,7 +54,7 @@ pub step-written :
 unfolding replyWritten
 step-written line book order = rw (start-in-range book order)
 
-refusal-written : (line number : ℕ) → replyWritten line (Refused number) ≡ right (replyLine line (Refused number))
+pub refusal-written : (line number : ℕ) → replyWritten line (Refused number) ≡ right (replyLine line (Refused number))
 unfolding replyWritten
 refusal-written line number = refl
 
@@ -174,7 +174,7 @@ module _ (text : List ℕ) where
 
   -- a buffer that is filled: its piece and what is left are what was left, and where there is room a piece is not empty
   module _ {reply : Reply} {buffer held : List ℕ} {filled : Filled} (fills : Fills text reply buffer filled held) where
-    piece-is : take (filled .length) held ≡ filling text reply (length buffer) .0
+    pub piece-is : take (filled .length) held ≡ filling text reply (length buffer) .0
     piece-is = rw (fills .holds, fills .counted) (front-of-onto (filling text reply (length buffer) .0) buffer)
 
     pub piece-lines :

@@ -31,9 +31,14 @@ use Rattle.lines.specs.declared.Heading.{Heading}
 use Rattle.orders.specs.Meaning.{CleanList}
 use Rattle.orders.proofs.Promises.{clean-exactly, refused-empty}
 use Rattle.orders.proofs.Beginning.{refused-by-nine}
+use Rattle.orders.proofs.begin.Reads as begin-list
+use Rattle.orders.proofs.next.Reads as next
+use Rattle.orders.specs.declared.Begun.{Begun}
+use Rattle.orders.specs.declared.Progress.{Progress}
+use Rattle.orders.specs.declared.Step.{Step}
 use Rattle.replies.specs.Replies.{replyLine, sumLine, replyWritten, startInRange, numbered, repliesBy, replyOf}
-use Rattle.replies.specs.Filling.{replyBegun, Fills}
-use Rattle.replies.specs.Meaning.{ReplyTo, SumOf, StartsPastLast, WrittenOut}
+use Rattle.replies.specs.Filling.{replyFrom, replyBegun, Fills}
+use Rattle.replies.specs.Meaning.{ReplyTo, SumOf, StartsPastLast, WrittenOut, FilledWith}
 use Rattle.replies.specs.declared.Reply.{Reply}
 use Rattle.replies.specs.declared.Filled.{Filled}
 use Rattle.replies.proofs.Replying as replying
@@ -44,6 +49,7 @@ use Rattle.replies.proofs.Room as room
 use Rattle.replies.proofs.Sums as sums
 use Rattle.replies.proofs.ReplyText as texts
 use Rattle.replies.proofs.Pieces as out
+use Rattle.replies.proofs.Due as due
 use Rattle.replies.proofs.write_answer.Reads as write-answer
 use Rattle.replies.proofs.write_sum.Reads as write-sum
 use Rattle.replies.proofs.begin.Reads as begin
@@ -185,6 +191,12 @@ module _ (κs : Lfts 1) (text : RefT (List ℕ)) (reply : Reply) (after : _) (be
   pub begin-not-over : reply .over ≡ false
   begin-not-over = ap (λ (it : Reply). it .over) begun
 
+  -- the refusal and the progress are those of `orders::begin`
+  pub begin-as-list :
+      (κ : Lfts 1) (list : Begun) (exit : _) → begin-list.Learnt κ (text, tt) list exit
+      → reply ≡ record { refusal = list .refusal; progress = list .progress; over = false }
+  begin-as-list κ list exit learnt = begun ∙ ap replyFrom (sym learnt)
+
   refused-so : (number : ℕ) → opening (now text) ≡ wrong number → (reply .refusal ≡ number) × (reply .progress .line ≡ refusedLine number)
   refused-so number refused = rw (begun, refused) (refl, refl)
 
@@ -215,6 +227,18 @@ module _ (κs : Lfts 2) (text : RefT (List ℕ)) (reply : Reply) (buffer : RefT 
       (lines : List (List ℕ)) × (joined lines ≡ take (filled .length) (now (after .1 .1 .0)))
       × ((others : List (List ℕ)) → AreLines others → AreLines (lines ++ others))
   fill-whole-lines = out.piece-lines (now text) learnt
+
+  -- what `orders::next` admits of this text
+  abbrev Steps : Progress → Step → Type 0
+  Steps progress step = (κ : Lfts 1) × (exit : _) × next.Learnt κ (text, (progress, tt)) step exit
+
+  -- and which: of a list that is refused its refusal, of each line that is left what `orders::next` answers, and then the sum, each behind
+  -- the one before while there is room, and the reply past them, field by field
+  pub fill-lines :
+      (lines : List (List ℕ)) × (joined lines ≡ take (filled .length) (now (after .1 .1 .0)))
+      × FilledWith (now text) Steps reply (length (now buffer)) lines (filled .reply)
+  fill-lines =
+      due.filled-lines (now text) Steps (λ progress. ((κs .0, tt), (text, (progress, tt)), record { read = refl; said = refl; next = refl })) learnt
 
   -- a reply that is over, or a buffer of fewer than 48 bytes, stays as it is
   pub fill-over : reply .over ≡ true → (filled .length ≡ 0) × (filled .reply ≡ reply) × (now (after .1 .1 .0) ≡ now buffer)

@@ -1,8 +1,8 @@
 -- What a line of a reply says, that an answer cannot be written, and that a reply is written out piece by piece.
 -- Stands on lists, numbers, numerals and what other rooms say; assumes nothing.
-use Prim.Native.Nat.{ℕ, _≤_, _<_}
+use Prim.Native.Nat.{ℕ, _-_, _≤_, _<_}
 use mathlib.Core.Path.{_≡_}
-use mathlib.Core.Bool.{false}
+use mathlib.Core.Bool.{true, false}
 use mathlib.Core.List.{List, [], _∷_}
 use lib.ListN.{length, take}
 use Rattle.ground.specs.Spelling.{DigitsOf}
@@ -10,6 +10,8 @@ use Rattle.fields.specs.Meaning.{Splits}
 use Rattle.writer.specs.Meaning.{HourText}
 use Rattle.book.specs.declared.Answer.{Answer}
 use Rattle.book.specs.declared.Answer.the-variants.{Yes, No, Refused}
+use Rattle.orders.specs.declared.Progress.{Progress}
+use Rattle.orders.specs.declared.Step.{Step}
 use Rattle.replies.specs.declared.Reply.{Reply}
 use Rattle.replies.specs.declared.Filled.{Filled}
 
@@ -50,3 +52,26 @@ pub data WrittenOut (Fill : Reply → List ℕ → Filled → List ℕ → Type 
       (reply last : Reply) (buffer held : List ℕ) (filled : Filled) (pieces : List (List ℕ)) → reply .over ≡ false → 48 ≤ length buffer
       → Fill reply buffer filled held → WrittenOut Fill (filled .reply) pieces last
       → WrittenOut Fill reply (take (filled .length) held ∷ pieces) last
+
+-- the next line of a reply that is not over, and the reply past it, over what it means that the list goes on by a step: "A bad first line
+-- prints `1→bad→N` and nothing more", a line of the text is answered under its number, and "The last line is `sum`, taken, kept"
+pub data NextLine (text : List ℕ) (Steps : Progress → Step → Type 0) (reply : Reply) : List ℕ → Reply → Type 0 where
+  of-refusal :
+      (line : List ℕ) → (reply .refusal ≡ 0 → ⊥) → ReplyTo (reply .progress .line) (Refused (reply .refusal)) line
+      → NextLine text Steps reply line (record { refusal = reply .refusal; progress = reply .progress; over = true })
+  of-answer :
+      (line : List ℕ) (step : Step) → reply .refusal ≡ 0 → reply .progress .at < length text → Steps (reply .progress) step
+      → ReplyTo (reply .progress .line) (step .answer) line
+      → NextLine text Steps reply line (record { refusal = reply .refusal; progress = step .progress; over = false })
+  of-sum :
+      (line : List ℕ) → reply .refusal ≡ 0 → length text ≤ reply .progress .at
+      → SumOf (reply .progress .book .taken) (reply .progress .book .kept) line
+      → NextLine text Steps reply line (record { refusal = reply .refusal; progress = reply .progress; over = true })
+
+-- the lines that so much room is filled with, one behind the other: while the reply is not over and there is room for 48 bytes
+pub data FilledWith (text : List ℕ) (Steps : Progress → Step → Type 0) : Reply → ℕ → List (List ℕ) → Reply → Type 0 where
+  stops : (reply : Reply) (room : ℕ) → (reply .over ≡ false → 48 ≤ room → ⊥) → FilledWith text Steps reply room [] reply
+  goes-on :
+      (reply next last : Reply) (room : ℕ) (line : List ℕ) (lines : List (List ℕ)) → reply .over ≡ false → 48 ≤ room
+      → NextLine text Steps reply line next → FilledWith text Steps next (room - length line) lines last
+      → FilledWith text Steps reply room (line ∷ lines) last

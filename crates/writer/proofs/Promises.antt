@@ -18,6 +18,7 @@ use Rattle.ground.specs.Outcome.{Injective, Single}
 use Rattle.ground.proofs.Digits.{spelled-some, spelled-most, spelled-below, length-last-digits}
 use Rattle.ground.proofs.Outcome.{single-value}
 use Rattle.hours.specs.Reading.{hourOf}
+use Rattle.texts.specs.Meaning.{LiesAt}
 use Rattle.fields.specs.Meaning.{allClean, Splits}
 use Rattle.writer.specs.Writing.{hourText, hourWritten, asLength, textIn, frontOf}
 use Rattle.writer.specs.Line.{fieldsAfter, lineWith, lineMade, lineIn, bytesOfAll}
@@ -149,6 +150,10 @@ module _ (κs : Lfts 1) (written : Written) (buffer : _) (text : _) (after : _) 
   pub text-is-the-front : (count : ℕ) → written ≡ Length count → count ≤ length (now buffer) → now text ≡ take count (now buffer)
   unfolding textIn frontOf
   text-is-the-front count counted room = learnt .0 ∙ rw (counted, le-leb count (length (now buffer)) room)
+
+  -- and it lies at the buffer's front
+  pub text-lies : LiesAt text buffer 0
+  text-lies = (learnt .1 .0, omega (arith, learnt .1 .1))
 
 -- what was written, to whatever buffer it fits, is the text that stands in it
 pub written-stands :

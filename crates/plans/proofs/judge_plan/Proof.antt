@@ -11,7 +11,7 @@ use Rattle.ground.specs.Limits.{mostChambers, mostOrders}
 use Rattle.texts.specs.Lines.{lineAt}
 use Rattle.texts.proofs.WholeText.{moves-on, ends-inside}
 use Rattle.plans.specs.Steps.{Loaded}
-use Rattle.plans.proofs.Loading.{zeros-at}
+use Rattle.ground.proofs.Buffer.{zeros-at}
 use Rattle.plans.proofs.Chains.{Searched, searched-top}
 use Rattle.plans.proofs.Planning.{Reached, loaded-line, load-chamber, reached-room, order-room, reached-top, reached-end, reached-fault, reached-next, reached-apart, earlier-room, earlier-back, earlier-on, reached-overlap, line-refused}
 use Rattle.plans.proofs.judge_plan.Statement.{statement}
