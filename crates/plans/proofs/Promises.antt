@@ -146,3 +146,11 @@ line-at-fault-lies κs list plan part fault after learnt = (
   showing.shown-of-plan fault list plan part (learnt .0) (learnt .1),
   showing.shown-of-list fault list plan part (learnt .0) (learnt .1),
 )
+
+-- 2f: so with the fault that `judge` answers it is the line of the first fault
+pub line-at-fault-first :
+    (κs : Lfts 2) (ks : Lfts 1) (list plan part : _) (fault : Fault) (after later : _)
+    → judge.Learnt κs (list, (plan, tt)) (judgement.Wrong fault) after → at-fault.Learnt ks (list, (plan, (fault, tt))) part later
+    → FirstFault (list .now) (plan .now) fault (part .now)
+line-at-fault-first κs ks list plan part fault after later judged-so shows =
+    rw (shows .0) (answers-wrong κs list plan (judgement.Wrong fault) after judged-so fault .0 refl)
