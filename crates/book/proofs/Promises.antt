@@ -338,3 +338,10 @@ take-single κs book ready due after one other p q =
     its-answer κs book ready due one after p ∙ sym (its-answer κs book ready due other after q) in
     let books : one .book ≡ other .book = p .next ∙ sym (q .next) in
     λ i. record { answer = answers i; book = books i }
+
+-- 1a: no public function asks anything of what it is passed
+pub nothing-asked :
+    ((κs : Lfts 0) (passed : _) → opening.Asked κs passed)
+    × ((κs : Lfts 0) (passed : _) → holding.Asked κs passed)
+    × ((κs : Lfts 0) (passed : _) → take.Asked κs passed)
+nothing-asked = (λ κs passed. tt, λ κs passed. tt, λ κs passed. tt)

@@ -34,3 +34,7 @@ module _ (κs : Lfts 1) (ready due run : ℕ) (hours : _) (count : ℕ) where
   -- 1d: the contract admits a single outcome
   pub best-fit-single : (after : _) → Single (λ choice. best-fit.Learnt κs (ready, (due, (run, (hours, (count, tt))))) choice after)
   best-fit-single after = single-value (bestFit ready due run 1 (take count (hours .now)))
+
+-- 1a: the function asks nothing of what it is passed
+pub nothing-asked : (κs : Lfts 1) (passed : _) → best-fit.Asked κs passed
+nothing-asked κs passed = tt

@@ -34,3 +34,7 @@ module _ (κs : Lfts 0) (byte : ℕ) (after : _) where
   -- and it is the class that the byte is of
   pub class-of-exactly : (answer : Class) → class-of.Learnt κs (byte, tt) answer after → (class : Class) → (answer ≡ class) ↔ OfClass byte class
   class-of-exactly answer learnt class = rw learnt (class-exactly byte class)
+
+-- 1a: the function asks nothing of what it is passed
+pub nothing-asked : (κs : Lfts 0) (passed : _) → class-of.Asked κs passed
+nothing-asked κs passed = tt

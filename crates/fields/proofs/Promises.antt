@@ -134,3 +134,10 @@ field-single κs line cut place one other after p q = (p .0 ∙ sym (q .0), p .1
 pub same-bytes-single :
     (κs : Lfts 2) (one other : RefT (List ℕ)) (after : _) → Single (λ same. same-bytes.Learnt κs (one, (other, tt)) same after)
 same-bytes-single κs one other after = single-value (sameBytes (one .now) (other .now))
+
+-- 1a: no public function asks anything of what it is passed
+pub nothing-asked :
+    ((κs : Lfts 1) (passed : _) → cut-line.Asked κs passed)
+    × ((κs : Lfts 1) (passed : _) → field.Asked κs passed)
+    × ((κs : Lfts 2) (passed : _) → same-bytes.Asked κs passed)
+nothing-asked = (λ κs passed. tt, λ κs passed. tt, λ κs passed. tt)

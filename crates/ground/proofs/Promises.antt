@@ -137,3 +137,9 @@ module _ (κs : Lfts 0) (low high number : ℕ) (after : _) where
   pub within-answers :
       (answer : Bool) → within-reads.Learnt κs (low, (high, (number, tt))) answer after → (answer ≡ true) ↔ ((low ≤ number) × (number ≤ high))
   within-answers answer learnt = rw learnt (within-exactly low high number)
+
+-- 1a: no public function asks anything of what it is passed
+pub nothing-asked :
+    ((κs : Lfts 0) (passed : _) → check-reads.Asked κs passed)
+    × ((κs : Lfts 0) (passed : _) → within-reads.Asked κs passed)
+nothing-asked = (λ κs passed. tt, λ κs passed. tt)

@@ -95,3 +95,9 @@ module _ (κs : Lfts 1) (field : _) (after : _) where
       → (answer ≡ plain.Refused number) ↔ ((number ≡ 2) × (Plain (field .now) → ⊥))
   read-plain-refused answer learnt number =
       Iff·trans (answered-exactly asPlain plain-told answer (plain.Refused number) learnt) (refused-by-two (field .now) number)
+
+-- 1a: no public function asks anything of what it is passed
+pub nothing-asked :
+    ((κs : Lfts 1) (passed : _) → read-hour.Asked κs passed)
+    × ((κs : Lfts 1) (passed : _) → read-plain.Asked κs passed)
+nothing-asked = (λ κs passed. tt, λ κs passed. tt)

@@ -102,3 +102,9 @@ pub write-checked-single :
     (κs : Lfts 3) (list plan buffer : _) (one other : Written) (held kept : _) → write-checked.Learnt κs (list, (plan, (buffer, tt))) one held
     → write-checked.Learnt κs (list, (plan, (buffer, tt))) other kept → (one ≡ other) × (now (held .1 .1 .0) ≡ now (kept .1 .1 .0))
 write-checked-single κs list plan buffer one other held kept p q = answers.single one other (p .0) (q .0) (p .1 .0 ∙ sym (q .1 .0))
+
+-- 1a: no public function asks anything of what it is passed
+pub nothing-asked :
+    ((κs : Lfts 1) (passed : _) → write-judgement.Asked κs passed)
+    × ((κs : Lfts 3) (passed : _) → write-checked.Asked κs passed)
+nothing-asked = (λ κs passed. tt, λ κs passed. tt)

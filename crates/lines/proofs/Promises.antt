@@ -176,3 +176,10 @@ read-order-single κs line after = single-answer asOrder order-told (orderOf (li
 pub read-load-single :
     (κs : Lfts 1) (line : RefT (List ℕ)) (count : ℕ) (after : _) → Single (λ answer. read-load.Learnt κs (line, (count, tt)) answer after)
 read-load-single κs line count after = single-answer asLoad load-told (loadOf count (line .now))
+
+-- 1a: no public function asks anything of what it is passed
+pub nothing-asked :
+    ((κs : Lfts 1) (passed : _) → read-heading.Asked κs passed)
+    × ((κs : Lfts 1) (passed : _) → read-order.Asked κs passed)
+    × ((κs : Lfts 1) (passed : _) → read-load.Asked κs passed)
+nothing-asked = (λ κs passed. tt, λ κs passed. tt, λ κs passed. tt)

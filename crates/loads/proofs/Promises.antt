@@ -50,3 +50,10 @@ pub overlap-single :
     (κs : Lfts 0) (hold chamber start other begins : ℕ) (after : _)
     → Single (λ together. overlapping.Learnt κs (hold, (chamber, (start, (other, (begins, tt))))) together after)
 overlap-single κs hold chamber start other begins after = single-value (overlap hold (loadFrom chamber start) (loadFrom other begins))
+
+-- 1a: no public function asks anything of what it is passed
+pub nothing-asked :
+    ((κs : Lfts 0) (passed : _) → place-of.Asked κs passed)
+    × ((κs : Lfts 3) (passed : _) → load-refusal.Asked κs passed)
+    × ((κs : Lfts 0) (passed : _) → overlapping.Asked κs passed)
+nothing-asked = (λ κs passed. tt, λ κs passed. tt, λ κs passed. tt)

@@ -295,3 +295,9 @@ next-single κs text progress after one other p q =
     let orders : one .order ≡ other .order = p .read ∙ sym (q .read) in
     let places : one .progress ≡ other .progress = p .next ∙ sym (q .next) in
     λ i. record { order = orders i; answer = answers i; progress = places i }
+
+-- 1a: no public function asks anything of what it is passed
+pub nothing-asked :
+    ((κs : Lfts 1) (passed : _) → begin.Asked κs passed)
+    × ((κs : Lfts 1) (passed : _) → next.Asked κs passed)
+nothing-asked = (λ κs passed. tt, λ κs passed. tt)

@@ -55,3 +55,7 @@ pub texts-differ :
     → planText order chamber start ≡ planText other-order other-chamber other-start
     → (order ≡ other-order) × (chamber ≡ other-chamber) × (start ≡ other-start)
 texts-differ = back.texts-differ
+
+-- 1a: the function asks nothing of what it is passed
+pub nothing-asked : (κs : Lfts 1) (passed : _) → write-plan-line.Asked κs passed
+nothing-asked κs passed = tt

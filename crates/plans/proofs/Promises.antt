@@ -154,3 +154,9 @@ pub line-at-fault-first :
     → FirstFault (list .now) (plan .now) fault (part .now)
 line-at-fault-first κs ks list plan part fault after later judged-so shows =
     rw (shows .0) (answers-wrong κs list plan (judgement.Wrong fault) after judged-so fault .0 refl)
+
+-- 1a: no public function asks anything of what it is passed
+pub nothing-asked :
+    ((κs : Lfts 2) (passed : _) → judge.Asked κs passed)
+    × ((κs : Lfts 1) (passed : _) → at-fault.Asked κs passed)
+nothing-asked = (λ κs passed. tt, λ κs passed. tt)

@@ -275,3 +275,11 @@ fill-single κs text reply buffer one other held stays p q =
     let lengths : one .length ≡ other .length = p .counted ∙ sym (q .counted) in
     let replies : one .reply ≡ other .reply = p .comes ∙ sym (q .comes) in
     (λ i. record { length = lengths i; reply = replies i }, p .holds ∙ sym (q .holds))
+
+-- 1a: no public function asks anything of what it is passed
+pub nothing-asked :
+    ((κs : Lfts 1) (passed : _) → begin.Asked κs passed)
+    × ((κs : Lfts 2) (passed : _) → fill.Asked κs passed)
+    × ((κs : Lfts 1) (passed : _) → write-answer.Asked κs passed)
+    × ((κs : Lfts 1) (passed : _) → write-sum.Asked κs passed)
+nothing-asked = (λ κs passed. tt, λ κs passed. tt, λ κs passed. tt, λ κs passed. tt)

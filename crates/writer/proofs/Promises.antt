@@ -215,3 +215,15 @@ pub text-in-single :
     (κs : Lfts 1) (written : Written) (buffer : _) (one other : _) (after : _) → text-in.Learnt κs (written, (buffer, tt)) one after
     → text-in.Learnt κs (written, (buffer, tt)) other after → (now one ≡ now other) × (one .ptr .0 ≡ other .ptr .0) × (one .ptr .1 ≡ other .ptr .1)
 text-in-single κs written buffer one other after p q = (p .0 ∙ sym (q .0), p .1 .0 ∙ sym (q .1 .0), p .1 .1 ∙ sym (q .1 .1))
+
+-- 1a: no public function asks anything of what it is passed
+pub nothing-asked :
+    ((κs : Lfts 0) (passed : _) → digit-count.Asked κs passed)
+    × ((κs : Lfts 1) (passed : _) → put-digits.Asked κs passed)
+    × ((κs : Lfts 1) (passed : _) → write-hour.Asked κs passed)
+    × ((κs : Lfts 2) (passed : _) → put-word.Asked κs passed)
+    × ((κs : Lfts 1) (passed : _) → put-number.Asked κs passed)
+    × ((κs : Lfts 1) (passed : _) → put-hour.Asked κs passed)
+    × ((κs : Lfts 2) (passed : _) → write-line.Asked κs passed)
+    × ((κs : Lfts 1) (passed : _) → text-in.Asked κs passed)
+nothing-asked = (λ κs passed. tt, λ κs passed. tt, λ κs passed. tt, λ κs passed. tt, λ κs passed. tt, λ κs passed. tt, λ κs passed. tt, λ κs passed. tt)
