@@ -1,4 +1,4 @@
--- The laws of this room, by what they are about; Limit has the theorem.
+-- The laws of this room, by what they are about; Promises has what they come to.
 pub mod Weights
 pub mod Counting
 pub mod OneOrder
@@ -9,3 +9,4 @@ pub mod Upper
 pub mod Keeping
 pub mod Limit
 pub mod Reached
+pub mod Promises

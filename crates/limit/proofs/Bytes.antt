@@ -22,8 +22,7 @@ use Rattle.plans.specs.Judging.{judged}
 use Rattle.plans.specs.Meaning.{Obeys}
 use Rattle.plans.proofs.Promises.{right-exactly}
 use Rattle.bound.specs.Keeping.{keptOf}
-use Rattle.bound.proofs.Keeping.{kept-exactly}
-use Rattle.bound.proofs.Limit.{limit}
+use Rattle.bound.proofs.Promises.{kept-exactly, limit}
 use Rattle.limit.proofs.Numbers.{asOrder, asPlanLoad, lengthsOf}
 use Rattle.limit.proofs.Kept.{yeses-are-kept}
 use Rattle.limit.proofs.Turn.{in-turn}
