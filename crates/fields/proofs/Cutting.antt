@@ -14,7 +14,7 @@ use Rattle.ground.specs.Range.{within}
 use Rattle.ground.proofs.Range.{within-low, within-high, outside-exactly}
 use Rattle.classes.specs.Classes.{comma, isDigit, classOf}
 use Rattle.classes.specs.declared.Class.{Class}
-use Rattle.texts.specs.Lines.{lineEnd, before}
+use Rattle.texts.specs.Lines.{lineEnd, before, partOf, partStart}
 use Rattle.fields.specs.Fields.{tab, isNone, isEnded, fieldsOf}
 use Rattle.fields.specs.Cutting.{noCut, inField, endsLine, oneFieldMore, cutFrom, fieldLength, endOf, startOf, lies, fieldAt, fieldStart}
 use Rattle.fields.specs.declared.Cut.{Cut}
@@ -146,3 +146,10 @@ module _ (line : List ℕ) (cut : Cut) (place : ℕ) where
       length-take-le _ _ (omega (arith, length-drop (startOf cut place) line)) in
       rw (inside, long) (omega arith, refl))
       (λ outside. rw outside (omega arith, refl))
+
+  -- and it is the part of a text between those places
+  pub is-part :
+      (fieldAt line cut place ≡ partOf line (startOf cut place) (endOf cut place))
+      × (fieldStart line cut place ≡ partStart line (startOf cut place) (endOf cut place))
+  unfolding fieldAt fieldStart lies partOf partStart
+  is-part = (refl, refl)

@@ -1,18 +1,19 @@
 -- What a cut finds: the count of the fields that a line splits into, and each of them between its ends. Assumes nothing.
 use Prim.Native.Nat.{ℕ, zero, suc, _+_, _-_, _≤_, _<_}
 use mathlib.Core.Path.{_≡_, refl, sym, ap, _∙_}
-use mathlib.Core.Bool.{true, cond}
+use mathlib.Core.Bool.{true, cond, _&&_}
 use mathlib.Core.List.{List, [], _∷_, _++_, append-assoc}
-use mathlib.Core.Logic.{_↔_, _⊎_, inl, inr}
-use lib.ListN.{length, getD, drop, length-append, length-set, length-drop}
+use mathlib.Core.Logic.{_↔_}
+use lib.ListN.{length, getD, take, drop, length-append, length-set, length-drop}
 use lib.Seq.{getD-set-same, getD-set-other, take-append-seam, drop-append-add, drop-drop}
 use lib.Dec.{ltb}
 use native.Mathlib.Omega.{arith}
-use borrow.Author.Tests.{lt-ltb, le-ltb}
-use Rattle.ground.proofs.Tests.{by-test}
+use borrow.Author.Tests.{lt-ltb, ltb-true}
+use Rattle.ground.proofs.Tests.{by-test, first-of, second-of}
+use Rattle.ground.proofs.Buffer.{zeros-at}
 use Rattle.fields.specs.Fields.{isEnded, fieldsOf}
-use Rattle.fields.specs.Meaning.{tabbed, Splits, HasFields}
-use Rattle.fields.specs.Cutting.{mostFields, noCut, oneFieldMore, cutOf, endOf, startOf, fieldAt}
+use Rattle.fields.specs.Meaning.{tabbed, Splits, HasFields, CutOut, first, further}
+use Rattle.fields.specs.Cutting.{mostFields, noCut, oneFieldMore, cutOf, endOf, startOf, fieldAt, fieldStart}
 use Rattle.fields.specs.declared.Cut.{Cut}
 use Rattle.fields.proofs.Splits.{split-fields, splits-ended}
 use Rattle.fields.proofs.Cutting.{withFields, cut-from, part-there, no-part}
@@ -25,16 +26,17 @@ fields-counted found at [] = omega arith
 fields-counted found at (field ∷ fields) =
     omega (arith, fields-counted (oneFieldMore found (at + length field)) (suc (at + length field)) fields)
 
--- an end that was kept stays
-kept-before :
-    (found : Cut) (at : ℕ) (fields : List (List ℕ)) (place : ℕ) → place < found .count
+-- what stands where none of them is kept stays
+kept-elsewhere :
+    (found : Cut) (at : ℕ) (fields : List (List ℕ)) (place : ℕ) → (found .count ≤ place → place < found .count + length fields → ⊥)
     → getD (withFields found at fields .ends) place 0 ≡ getD (found .ends) place 0
 unfolding withFields
-kept-before found at [] place before = refl
-kept-before found at (field ∷ fields) place before =
-    kept-before (oneFieldMore found (at + length field)) (suc (at + length field)) fields place (omega arith)
+kept-elsewhere found at [] place elsewhere = refl
+kept-elsewhere found at (field ∷ fields) place elsewhere =
+    kept-elsewhere (oneFieldMore found (at + length field)) (suc (at + length field)) fields place (λ from to. elsewhere (omega arith) (omega arith))
     ∙ by-test (ltb (found .count) mostFields)
-    (λ room. rw room (getD-set-other (found .ends) (found .count) place (at + length field) 0 (λ same. omega arith))) (λ full. rw full)
+    (λ room. rw room (getD-set-other (found .ends) (found .count) place (at + length field) 0 (λ same. elsewhere (omega arith) (omega arith))))
+    (λ full. rw full)
 
 -- where the field at a place starts, of those that stand one behind the other, the first from a place of the line on; and where it ends
 unfoldable startAt : ℕ → List (List ℕ) → ℕ → ℕ
@@ -55,13 +57,24 @@ kept-at found at (field ∷ fields) zero kept whole inside there room =
     let here : kept ≡ found .count = omega arith in
     let free : ltb (found .count) mostFields ≡ true = lt-ltb (found .count) mostFields (omega arith) in
     rw here
-    (kept-before (oneFieldMore found (at + length field)) (suc (at + length field)) fields (found .count) (omega arith)
+    (kept-elsewhere (oneFieldMore found (at + length field)) (suc (at + length field)) fields (found .count) (λ from to. omega arith)
     ∙ rw free (getD-set-same (found .ends) (found .count) (at + length field) 0 (omega arith)))
 kept-at found at (field ∷ fields) (suc place) kept whole inside there room =
     let free : ltb (found .count) mostFields ≡ true = lt-ltb (found .count) mostFields (omega arith) in
     let more = oneFieldMore found (at + length field) in
     let still : length (more .ends) ≡ mostFields = rw free (length-set (found .ends) (found .count) (at + length field) ∙ whole) in
     kept-at more (suc (at + length field)) fields place kept still (omega arith) (omega arith) room
+
+-- as many bytes stand up to the end of one, with a tab between each two fields
+end-behind :
+    (at : ℕ) (fields : List (List ℕ)) (place : ℕ) → place < length fields
+    → endAt at fields place ≡ at + length (tabbed (take (suc place) fields))
+unfolding startAt tabbed
+end-behind at [] place inside = absurd (omega arith)
+end-behind at (field ∷ fields) zero inside = refl
+end-behind at (field ∷ []) (suc place) inside = absurd (omega arith)
+end-behind at (field ∷ next ∷ fields) (suc place) inside =
+    simp length-append (omega (arith, end-behind (suc (at + length field)) (next ∷ fields) place (omega arith)))
 
 -- the next field starts behind the end of one
 next-start :
@@ -95,6 +108,22 @@ count-of line =
     rw (cut-from line noCut 0)
     (by-test (isEnded line) (λ ends. rw ends (omega (arith, fields-counted noCut 0 (fieldsOf line)))) (λ goes. rw goes))
 
+-- and keeps no end past the count
+pub keeps-no-other : (line : List ℕ) (place : ℕ) → cutOf line .count ≤ place → getD (cutOf line .ends) place 0 ≡ 0
+unfolding cutOf
+keeps-no-other line place past =
+    by-test (isEnded line)
+    (λ ends.
+    let cut : cutOf line ≡ withFields noCut 0 (fieldsOf line) = cut-from line noCut 0 ∙ rw ends in
+    let counted : cutOf line .count ≡ length (fieldsOf line) = count-of line ∙ rw ends in
+    rw cut (kept-elsewhere noCut 0 (fieldsOf line) place (λ from to. omega arith) ∙ zeros-at mostFields place))
+    (λ goes. rw (cut-from line noCut 0, goes) (zeros-at mostFields place))
+
+-- where a field of a cut ends, of those whose ends are kept
+its-end : (cut : Cut) (place : ℕ) → place < cut .count → place < mostFields → endOf cut place ≡ getD (cut .ends) place 0
+unfolding endOf
+its-end cut place counted kept = rw (lt-ltb place (cut .count) counted, lt-ltb place mostFields kept)
+
 -- A line that splits.
 module _ (line : List ℕ) (fields : List (List ℕ)) (splits : Splits line fields) where
   -- the cut counts its fields
@@ -102,12 +131,18 @@ module _ (line : List ℕ) (fields : List (List ℕ)) (splits : Splits line fiel
   cut-counts = let facts = split-fields splits in count-of line ∙ rw (facts .0, facts .1)
 
   -- and keeps the ends of the first
-  cut-ends : (place : ℕ) → place < length fields → place < mostFields → endOf (cutOf line) place ≡ endAt 0 fields place
-  unfolding endOf cutOf
-  cut-ends place inside room =
+  cut-keeps : (place : ℕ) → place < length fields → place < mostFields → getD (cutOf line .ends) place 0 ≡ endAt 0 fields place
+  unfolding cutOf
+  cut-keeps place inside room =
       let facts = split-fields splits in
-      let cut : cutOf line ≡ withFields noCut 0 fields = cut-from line noCut 0 ∙ rw (facts .0, facts .1) in
-      rw (cut-counts, lt-ltb place (length fields) inside, lt-ltb place mostFields room, cut) (kept-at noCut 0 fields place place refl inside (omega arith) room)
+      rw (cut-from line noCut 0, facts .0, facts .1) (kept-at noCut 0 fields place place refl inside (omega arith) room)
+
+  pub keeps-ends :
+      (place : ℕ) → place < length fields → place < mostFields → getD (cutOf line .ends) place 0 ≡ length (tabbed (take (suc place) fields))
+  keeps-ends place inside room = omega (arith, cut-keeps place inside room, end-behind 0 fields place inside)
+
+  cut-ends : (place : ℕ) → place < length fields → place < mostFields → endOf (cutOf line) place ≡ endAt 0 fields place
+  cut-ends place inside room = its-end (cutOf line) place (omega (arith, cut-counts)) room ∙ cut-keeps place inside room
 
   cut-starts : (place : ℕ) → place < length fields → place < mostFields → startOf (cutOf line) place ≡ startAt 0 fields place
   unfolding startAt startOf
@@ -128,17 +163,39 @@ module _ (line : List ℕ) (fields : List (List ℕ)) (splits : Splits line fiel
       let size : start + length field - start ≡ length field = omega arith in
       sym (part .0) ∙ rw (size, there .2) (take-append-seam field (there .0))
 
-no-end : (cut : Cut) (place : ℕ) → (cut .count ≤ place) ⊎ (mostFields ≤ place) → endOf cut place ≡ 0
-unfolding endOf
-no-end cut place (inl past) = rw (le-ltb place (cut .count) past)
-no-end cut place (inr unkept) =
-    by-test (ltb place (cut .count)) (λ inside. rw (inside, le-ltb place mostFields unkept)) (λ outside. rw outside)
-
--- past the count of a cut, or past the ends that it keeps, there is no field
-pub field-none : (line : List ℕ) (cut : Cut) (place : ℕ) → (cut .count ≤ place) ⊎ (mostFields ≤ place) → fieldAt line cut place ≡ []
+-- A field of a cut stands between the two places that the cut says.
+pub cut-out-places : {cut : Cut} {place from to : ℕ} → CutOut cut place from to → (from ≡ startOf cut place) × (to ≡ endOf cut place)
 unfolding startOf
-field-none line cut zero past = sym (part-there line cut zero 0 0 refl (sym (no-end cut zero past)) (omega arith) (omega arith) .0)
-field-none line cut (suc place) past = no-part line cut (suc place) (λ inside. omega (arith, no-end cut (suc place) past)) .0
+cut-out-places {cut} (first counted) = (refl, sym (its-end cut 0 counted (omega arith)))
+cut-out-places {cut} (further before counted kept) =
+    (ap suc (sym (its-end cut before (omega arith) (omega arith))), sym (its-end cut (suc before) counted kept))
+
+cut-out : (cut : Cut) (place : ℕ) → place < cut .count → place < mostFields → CutOut cut place (startOf cut place) (endOf cut place)
+unfolding startOf
+cut-out cut zero counted kept = rw (its-end cut 0 counted kept) (first counted)
+cut-out cut (suc before) counted kept =
+    rw (its-end cut before (omega arith) (omega arith), its-end cut (suc before) counted kept) (further before counted kept)
+
+-- what ends with the line's start is its empty front
+ends-at-start :
+    (line : List ℕ) (cut : Cut) (place : ℕ) → endOf cut place ≡ 0 → (fieldAt line cut place ≡ []) × (fieldStart line cut place ≡ 0)
+unfolding startOf
+ends-at-start line cut zero none =
+    let there = part-there line cut zero 0 0 refl (sym none) (omega arith) (omega arith) in (sym (there .0), sym (there .1))
+ends-at-start line cut (suc place) none = no-part line cut (suc place) (λ inside. omega arith)
+
+-- and so is what the cut does not say, or says of no places of the line in order
+pub field-none :
+    (line : List ℕ) (cut : Cut) (place : ℕ) → ((from to : ℕ) → CutOut cut place from to → from ≤ to → to ≤ length line → ⊥)
+    → (fieldAt line cut place ≡ []) × (fieldStart line cut place ≡ 0)
+unfolding endOf
+field-none line cut place never =
+    by-test (ltb place (cut .count) && ltb place mostFields)
+    (λ said.
+    let counted = ltb-true _ _ (first-of (ltb place (cut .count)) (ltb place mostFields) said) in
+    let kept = ltb-true _ _ (second-of (ltb place (cut .count)) (ltb place mostFields) said) in
+    no-part line cut place (λ inside. never _ _ (cut-out cut place counted kept) (inside .0) (inside .1)))
+    (λ unsaid. ends-at-start line cut place (rw unsaid))
 
 -- the count is that of the fields that the line splits into
 pub count-exactly : (line : List ℕ) (count : ℕ) → 1 ≤ count → (cutOf line .count ≡ count) ↔ HasFields count line

@@ -1,5 +1,5 @@
 -- What this room promises, of the contracts themselves and of the definitions that they cite, by the laws of this folder. Assumes nothing.
-use Prim.Native.Nat.{ℕ, _+_, _≤_, _<_}
+use Prim.Native.Nat.{ℕ, suc, _+_, _≤_, _<_}
 use mathlib.Core.Path.{_≡_, refl, sym, _∙_}
 use mathlib.Core.Bool.{true, _&&_}
 use mathlib.Core.List.{List, []}
@@ -15,8 +15,10 @@ use Rattle.ground.proofs.Outcome.{single-value}
 use Rattle.ground.proofs.Tests.{by-test, first-of, second-of}
 use Rattle.ground.proofs.Refusal.{never-right}
 use Rattle.ground.proofs.Range.{within-from, within-low, within-high}
+use Rattle.texts.specs.Meaning.{Between, LiesAt}
+use Rattle.texts.proofs.Places.{between-places}
 use Rattle.fields.specs.Fields.{tab, isEnded, fieldsOf, sameBytes, shapeOf}
-use Rattle.fields.specs.Meaning.{Splits, HasFields}
+use Rattle.fields.specs.Meaning.{tabbed, Splits, HasFields, CutOut}
 use Rattle.fields.specs.Cutting.{mostFields, cutOf, fieldStart}
 use Rattle.fields.specs.declared.Cut.{Cut}
 use Rattle.fields.proofs.cut_line.Reads as cut-line
@@ -96,11 +98,36 @@ pub field-exactly :
 field-exactly κs ks line text cut place after later was-cut given fields split inside room =
     given .0 ∙ rw was-cut (found.field-found (line .now) fields split place inside room)
 
--- past the count of a cut, or past five, there is no field
-pub field-none :
-    (κs : Lfts 1) (line : RefT (List ℕ)) (cut : Cut) (place : ℕ) (text : RefT (List ℕ)) (after : _)
-    → field.Learnt κs (line, (cut, (place, tt))) text after → (cut .count ≤ place) ⊎ (5 ≤ place) → text .now ≡ []
-field-none κs line cut place text after given past = given .0 ∙ found.field-none (line .now) cut place past
+-- the cut keeps where each of the first five ends, as many bytes behind the line's start as it and the fields before it have, with a tab
+-- between each two; every other end is 0
+pub keeps-ends :
+    (κs : Lfts 1) (line : RefT (List ℕ)) (cut : Cut) (after : _) → cut-line.Learnt κs (line, tt) cut after → (fields : List (List ℕ))
+    → Splits (line .now) fields → (place : ℕ) → place < length fields → place < 5
+    → getD (cut .ends) place 0 ≡ length (tabbed (take (suc place) fields))
+keeps-ends κs line cut after learnt fields split place inside room = rw learnt (found.keeps-ends (line .now) fields split place inside room)
+
+pub keeps-no-other :
+    (κs : Lfts 1) (line : RefT (List ℕ)) (cut : Cut) (after : _) → cut-line.Learnt κs (line, tt) cut after → (place : ℕ)
+    → cut .count ≤ place → getD (cut .ends) place 0 ≡ 0
+keeps-no-other κs line cut after learnt place past = rw learnt (found.keeps-no-other (line .now) place (rw learnt at past))
+
+-- whatever the cut, `field` gives what stands between the two places that it says, and it lies there; where it says none, or these are no
+-- places of the line in order, the empty front
+module _ (κs : Lfts 1) (line : RefT (List ℕ)) (cut : Cut) (place : ℕ) (text : RefT (List ℕ)) (after : _)
+    (given : field.Learnt κs (line, (cut, (place, tt))) text after) where
+  pub field-between :
+      (from to : ℕ) → CutOut cut place from to → from ≤ to → to ≤ length (line .now)
+      → Between (line .now) (text .now) from to × LiesAt text line from
+  field-between from to out order inside =
+      let same = found.cut-out-places out in
+      let is = cutting.is-part (line .now) cut place in
+      between-places line text from to (given .0 ∙ rw (same .0, same .1) (is .0)) (given .1 .0, given .1 .1 ∙ rw (same .0, same .1, is .1))
+      order inside
+
+  pub field-none :
+      ((from to : ℕ) → CutOut cut place from to → from ≤ to → to ≤ length (line .now) → ⊥) → (text .now ≡ []) × LiesAt text line 0
+  field-none never =
+      let none = found.field-none (line .now) cut place never in (given .0 ∙ none .0, (given .1 .0, omega (arith, given .1 .1, none .1)))
 
 -- a field lies in its line, whatever the cut: in the same block, from a place of the line on, and its bytes are the line's from there
 pub field-lies :

@@ -1,10 +1,12 @@
--- What it means that a line has fields. It is no way of splitting; the fields of a line are proved to be these. Assumes nothing.
-use Prim.Native.Nat.{ℕ, _≤_}
+-- What it means that a line has fields, and between which places a cut has one. It is no way of splitting or cutting; what the functions
+-- of this room answer is proved to be this. Assumes nothing.
+use Prim.Native.Nat.{ℕ, suc, _≤_, _<_}
 use mathlib.Core.Path.{_≡_}
 use mathlib.Core.Bool.{Bool, true, not, _&&_}
 use mathlib.Core.List.{List, [], _∷_, _++_}
-use lib.ListN.{length}
+use lib.ListN.{length, getD}
 use lib.Dec.{eqb}
+use Rattle.fields.specs.declared.Cut.{Cut}
 
 -- a text with neither a tab nor a line end in it
 unfoldable pub isClean : List ℕ → Bool
@@ -32,3 +34,11 @@ pub record HasFields (count : ℕ) (line : List ℕ) : Type 0 where
   pub fields : List (List ℕ)
   pub splits : Splits line fields
   pub counted : length fields ≡ count
+
+-- a field of a cut is one that it counts, among the five of which the ends are kept: the first starts with the line, any other behind
+-- the byte at which the one before ends
+pub data CutOut (cut : Cut) : ℕ → ℕ → ℕ → Type 0 where
+  first : 0 < cut .count → CutOut cut 0 0 (getD (cut .ends) 0 0)
+  further :
+      (before : ℕ) → suc before < cut .count → suc before < 5
+      → CutOut cut (suc before) (suc (getD (cut .ends) before 0)) (getD (cut .ends) (suc before) 0)
