@@ -27,7 +27,7 @@ use Rattle.book.proofs.Promises.{start-in-time, yes-exactly}
 use Rattle.orders.specs.Answers.{opening, decision, begunBy, refusedLine}
 use Rattle.orders.proofs.Beginning.{refused-by-its-first-line}
 use Rattle.replies.specs.Replies.{replyLine, sumLine, startInRange, replyWritten, repliesBy, replyOf}
-use Rattle.replies.specs.Filling.{bytesIn, replyBegun, lineDue, pastLineDue, goesOn, ahead, fillingUpTo, filling, Fills}
+use Rattle.replies.specs.Filling.{bytesIn, replyBegun, lineDue, pastLineDue, goesOn, fillingUpTo, filling, Fills}
 use Rattle.replies.specs.Meaning.{WrittenOut, nothing-more, a-piece}
 use Rattle.replies.specs.declared.Reply.{Reply}
 use Rattle.replies.specs.declared.Filled.{Filled}
