@@ -116,6 +116,10 @@ module _ (κs : Lfts 0) (chambers run : ℕ) (outcome : Opened) (after : _) (lea
   pub opening-fresh : Openable chambers run → Fresh chambers run (outcome .book)
   opening-fresh inside = rw (learnt ∙ opened-within chambers run inside) (fresh-book chambers run)
 
+  -- and nothing else comes of it than the number and the book
+  pub opening-whole : outcome ≡ record { refusal = outcome .refusal; book = outcome .book }
+  opening-whole = refl
+
 -- the definition of a fresh book is the paper's, for any numbers
 pub fresh-book-fresh : (chambers run : ℕ) → Fresh chambers run (freshBook chambers run)
 fresh-book-fresh = fresh-book
@@ -136,6 +140,11 @@ pub opened-fresh :
     → (opened chambers run .refusal ≡ 0) × (opened chambers run .book ≡ freshBook chambers run) × Sound (opened chambers run .book)
 opened-fresh chambers run inside = rw (opened-within chambers run inside) (refl, refl, fresh-sound chambers run inside)
 
+-- and where it cannot be opened so, the definition has 4 and every field 0
+pub opened-refused :
+    (chambers run : ℕ) → (Openable chambers run → ⊥) → (opened chambers run .refusal ≡ 4) × Fresh 0 0 (opened chambers run .book)
+opened-refused chambers run out = rw (opened-outside chambers run out) (refl, fresh-book 0 0)
+
 -- Any book, sound or not, an order with any hours, and whatever `take` admits: an answer and the next book.
 module _ (κs : Lfts 0) (book : Book) (ready due : ℕ) (outcome : Taken) (after : _) (learnt : take.Learnt κs (book, (ready, (due, tt))) outcome after) where
   -- it is the answer to what is decided
@@ -151,6 +160,10 @@ module _ (κs : Lfts 0) (book : Book) (ready due : ℕ) (outcome : Taken) (after
   -- answer and next book are what the paper says
   pub take-right : RightAnswer book ready due (outcome .book) (outcome .answer)
   take-right = rw (its-answer, learnt .next) (steps.right-answer book ready due (decided book ready due) refl)
+
+  -- and nothing else comes back
+  pub taken-whole : outcome ≡ record { answer = outcome .answer; book = outcome .book }
+  taken-whole = refl
 
   -- so orders taken one after another are a history
   pub taken-before :
@@ -273,6 +286,19 @@ module _ (chambers run : ℕ) (book : Book) (fresh : Fresh chambers run book) (g
           λ e. let p = said .0 e in (p .0, as-source (p .0) .0 (p .1)),
           λ p. said .1 (p .0, as-source (p .0) .1 (p .1)),
         )
+
+-- The next book of whatever is decided: a choice of a chamber that has a free hour, nothing, or a refusal.
+module _ (book : Book) (ready : ℕ) where
+  pub next-of-choice :
+      (chamber start : ℕ) → 1 ≤ chamber → chamber ≤ length (book .free)
+      → AfterYes book ready chamber start (nextBook book ready (right (Chamber chamber start)))
+  next-of-choice = steps.yes-stored book ready
+
+  pub next-of-nothing : AfterNo book ready (nextBook book ready (right Nothing))
+  next-of-nothing = steps.no-counted book ready
+
+  pub next-of-refusal : (number : ℕ) → nextBook book ready (wrong number) ≡ book
+  next-of-refusal number = refl
 
 -- What is decided of an order, for the rooms above, whose definitions cite it.
 module _ (book : Book) (ready due : ℕ) where

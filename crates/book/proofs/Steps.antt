@@ -21,6 +21,29 @@ use Rattle.choice.specs.declared.Choice.the-variants.{Nothing, Chamber}
 use Rattle.choice.proofs.Fitting.{right-exactly}
 use Rattle.book.proofs.Refusals.{by-first-fault, by-choice}
 
+module _ (book : Book) (ready : ℕ) where
+  -- what a yes does to the book, of a chamber that has a free hour
+  pub yes-stored :
+      (chamber start : ℕ) → 1 ≤ chamber → chamber ≤ length (book .free)
+      → AfterYes book ready chamber start (nextBook book ready (right (Chamber chamber start)))
+  yes-stored chamber start numbered listed =
+      let hours = book .free in
+      record {
+        clock-ready = refl;
+        one-taken = refl;
+        one-kept = refl;
+        chambers-stay = refl;
+        run-stays = refl;
+        hours-stay = length-set hours (chamber - 1) (start + book .run);
+        its-hour = getD-set-same hours (chamber - 1) (start + book .run) 0 (omega arith);
+        other-hours = λ place other. getD-set-other hours (chamber - 1) place (start + book .run) 0 other;
+      }
+
+  -- and what a no does
+  pub no-counted : AfterNo book ready (nextBook book ready (right Nothing))
+  no-counted =
+      record { clock-ready = refl; one-taken = refl; kept-stays = refl; chambers-stay = refl; run-stays = refl; free-stays = refl }
+
 module _ (book : Book) (ready due : ℕ) where
   -- the next book has as many free hours
   pub next-sized : (decision : Read Choice) → Sized book → Sized (nextBook book ready decision)
@@ -47,32 +70,14 @@ module _ (book : Book) (ready due : ℕ) where
   pub no-exactly : (decided book ready due ≡ right Nothing) ↔ (Admitted book ready due × NoChamber book ready due)
   no-exactly = choice-exactly Nothing
 
-  -- what a yes does to the book
-  yes-stored : (chamber start : ℕ) → BestChamber book ready due chamber start → AfterYes book ready chamber start (nextBook book ready (right (Chamber chamber start)))
-  yes-stored chamber start best =
-      let hours = book .free in
-      record {
-        clock-ready = refl;
-        one-taken = refl;
-        one-kept = refl;
-        chambers-stay = refl;
-        run-stays = refl;
-        hours-stay = length-set hours (chamber - 1) (start + book .run);
-        its-hour = getD-set-same hours (chamber - 1) (start + book .run) 0 (omega (arith, best .fitting .numbered .0, best .fitting .listed));
-        other-hours = λ place other. getD-set-other hours (chamber - 1) place (start + book .run) 0 other;
-      }
-
   -- whatever is decided, it is answered as the paper says
   pub right-answer : (decision : Read Choice) → decided book ready due ≡ decision → RightAnswer book ready due (nextBook book ready decision) (answerOf decision)
   right-answer (wrong number) e = (by-first-fault book ready due number .0 e, refl)
-  right-answer (right Nothing) e =
-      let known = no-exactly .0 e in (
-        known .0,
-        known .1,
-        record { clock-ready = refl; one-taken = refl; kept-stays = refl; chambers-stay = refl; run-stays = refl; free-stays = refl },
-      )
+  right-answer (right Nothing) e = let known = no-exactly .0 e in (known .0, known .1, no-counted book ready)
   right-answer (right (Chamber chamber start)) e =
-      let known = yes-exactly chamber start .0 e in (known .0, known .1, yes-stored chamber start (known .1))
+      let known = yes-exactly chamber start .0 e in
+      let fitting = known .1 .fitting in
+      (known .0, known .1, yes-stored book ready chamber start (fitting .numbered .0) (fitting .listed))
 
   -- a start is never before ready, nor later than due less run
   pub start-in-time : (chamber start : ℕ) → decided book ready due ≡ right (Chamber chamber start) → (ready ≤ start) × (start + book .run ≤ due)

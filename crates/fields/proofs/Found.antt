@@ -38,6 +38,14 @@ kept-elsewhere found at (field ∷ fields) place elsewhere =
     (λ room. rw room (getD-set-other (found .ends) (found .count) place (at + length field) 0 (λ same. elsewhere (omega arith) (omega arith))))
     (λ full. rw full)
 
+-- there are as many ends as before
+as-many-ends : (found : Cut) (at : ℕ) (fields : List (List ℕ)) → length (withFields found at fields .ends) ≡ length (found .ends)
+unfolding withFields
+as-many-ends found at [] = refl
+as-many-ends found at (field ∷ fields) =
+    as-many-ends (oneFieldMore found (at + length field)) (suc (at + length field)) fields
+    ∙ by-test (ltb (found .count) mostFields) (λ room. rw room (length-set (found .ends) (found .count) (at + length field))) (λ full. rw full)
+
 -- where the field at a place starts, of those that stand one behind the other, the first from a place of the line on; and where it ends
 unfoldable startAt : ℕ → List (List ℕ) → ℕ → ℕ
 startAt at fields zero = at
@@ -118,6 +126,13 @@ keeps-no-other line place past =
     let counted : cutOf line .count ≡ length (fieldsOf line) = count-of line ∙ rw ends in
     rw cut (kept-elsewhere noCut 0 (fieldsOf line) place (λ from to. omega arith) ∙ zeros-at mostFields place))
     (λ goes. rw (cut-from line noCut 0, goes) (zeros-at mostFields place))
+
+-- and has five ends, whatever it counts
+pub five-ends : (line : List ℕ) → length (cutOf line .ends) ≡ 5
+unfolding cutOf
+five-ends line =
+    rw (cut-from line noCut 0)
+    (by-test (isEnded line) (λ ends. rw ends (as-many-ends noCut 0 (fieldsOf line))) (λ goes. rw goes))
 
 -- where a field of a cut ends, of those whose ends are kept
 its-end : (cut : Cut) (place : ℕ) → place < cut .count → place < mostFields → endOf cut place ≡ getD (cut .ends) place 0

@@ -1,6 +1,6 @@
 -- What this room promises, of the contracts themselves and of the definitions that they cite, by the laws of this folder. Assumes nothing.
 use Prim.Native.Nat.{ℕ, suc, _+_, _≤_, _<_}
-use mathlib.Core.Path.{_≡_, refl, sym, _∙_}
+use mathlib.Core.Path.{_≡_, refl, sym, ap, _∙_}
 use mathlib.Core.Bool.{true, _&&_}
 use mathlib.Core.List.{List, []}
 use mathlib.Core.Logic.{_↔_, _⊎_, inl, inr}
@@ -110,6 +110,12 @@ pub keeps-no-other :
     (κs : Lfts 1) (line : RefT (List ℕ)) (cut : Cut) (after : _) → cut-line.Learnt κs (line, tt) cut after → (place : ℕ)
     → cut .count ≤ place → getD (cut .ends) place 0 ≡ 0
 keeps-no-other κs line cut after learnt place past = rw learnt (found.keeps-no-other (line .now) place (rw learnt at past))
+
+-- it has five ends, and is its count and these and nothing else
+pub five-ends :
+    (κs : Lfts 1) (line : RefT (List ℕ)) (cut : Cut) (after : _) → cut-line.Learnt κs (line, tt) cut after
+    → (length (cut .ends) ≡ 5) × (cut ≡ record { count = cut .count; ends = cut .ends })
+five-ends κs line cut after learnt = (ap (λ (made : Cut). length (made .ends)) learnt ∙ found.five-ends (line .now), refl)
 
 -- whatever the cut, `field` gives what stands between the two places that it says, and it lies there; where it says none, or these are no
 -- places of the line in order, the empty front

@@ -27,7 +27,7 @@ use Rattle.book.specs.declared.Answer.{Answer}
 use Rattle.book.specs.declared.Answer.the-variants.{No, Refused}
 use Rattle.book.proofs.Promises.{answer-told}
 use Rattle.book.proofs.Book.take.Reads as take
-use Rattle.orders.specs.Answers.{bookFor, opening, orderLines, answersFrom, bookAfter, decision, bookPast, refusals, yeses, begunBy, progressPast}
+use Rattle.orders.specs.Answers.{bookFor, opening, orderLines, answersFrom, bookAfter, decision, bookPast, refusals, yeses, begunBy}
 use Rattle.orders.specs.Meaning.{HasLines, FirstOf, of-lines, CleanOrders, CleanList, OrderWrong}
 use Rattle.orders.specs.History.{newBook, Answers, Counts}
 use Rattle.orders.specs.declared.Begun.{Begun}
@@ -55,6 +55,10 @@ orders-behind-the-first first further are = sym (first-and-further (joined (firs
 
 pub lines-are-first-and-orders : (text : List ℕ) → 0 < length text → linesOf text ≡ lineAt text 0 ∷ orderLines text
 lines-are-first-and-orders = first-lines.first-and-orders
+
+-- the book of a first line is a fresh one with its chambers and its run, whatever these are
+pub book-for-heading : (heading : Heading) → bookFor heading ≡ newBook (heading .chambers) (heading .run)
+book-for-heading heading = refl
 
 module _ (text first : List ℕ) (further : List (List ℕ)) (cut : FirstOf text first further) where
   -- a list opens a book exactly when it is not longer than 65,536 bytes and its first line reads, and that is its fresh book
@@ -136,6 +140,10 @@ module _ (κs : Lfts 1) (text : RefT (List ℕ)) (progress : Progress) (step : S
       }
   next-at-end = steps.step-at-end κs text progress step after learnt
 
+  -- while a line is left the place moves on, so that going through ends
+  pub moves-on : progress .at < length (now text) → progress .at < step .progress .at
+  moves-on inside = omega (arith, ap (λ (reached : Progress). reached .at) (learnt .next), places.moves-on (now text) progress inside)
+
 -- What is decided of an order line, and the book past it.
 module _ (book : Book) (line : List ℕ) where
   -- 1b: its own fault, and the book stays
@@ -145,6 +153,12 @@ module _ (book : Book) (line : List ℕ) where
   -- else what the book decides of the order read, number for number
   pub decided-reading : (order : Order) → OrderReads line order → decision book (orderOf line) ≡ decided book (order .ready) (order .due)
   decided-reading order reads = ap (decision book) (order-reads line order .1 reads)
+
+  -- and the book past it is the one that comes back from `take`
+  pub past-reading :
+      (order : Order) → OrderReads line order → (κs : Lfts 0) (taken : Taken) (exit : _)
+      → take.Learnt κs (book, (order .ready, (order .due, tt))) taken exit → bookPast book (orderOf line) ≡ taken .book
+  past-reading order reads κs taken exit takes = ap (bookPast book) (order-reads line order .1 reads) ∙ sym (takes .next)
 
 -- 1c: a refused line leaves the book as it stood
 pub refused-line-stays : (book : Book) (order : Read Order) (number : ℕ) → decision book order ≡ wrong number → bookPast book order ≡ book
@@ -278,10 +292,6 @@ pub refused-by-its-fault :
     (line : List ℕ) (heading : Heading) → HeadingReads line heading → (lines : List (List ℕ)) (orders : List Order) → CleanOrders lines orders
     → (next : List ℕ) (number : ℕ) → (decision (bookAfter (bookFor heading) lines) (orderOf next) ≡ wrong number) ↔ OrderWrong orders next number
 refused-by-its-fault line heading reads = clean.behind-clean line heading (heading-reads line heading .1 reads)
-
--- while a line is left the place moves on, so that going through ends
-pub moves-on : (text : List ℕ) (progress : Progress) → progress .at < length text → progress .at < progressPast text progress .at
-moves-on = places.moves-on
 
 -- 1d: each public function's contract admits a single outcome
 pub begin-single : (κs : Lfts 1) (text : RefT (List ℕ)) (after : _) → Single (λ begun. begin.Learnt κs (text, tt) begun after)

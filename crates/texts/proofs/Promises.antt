@@ -46,6 +46,13 @@ pub walk-done :
     (text : List ℕ) (at : ℕ) → length text ≤ at → (linesOf (drop at text) ≡ []) × (lineAt text at ≡ []) × (pastLine text at ≡ at)
 walk-done = cut.walk-done
 
+-- so what the definitions have at any place is the first line of what stands from there on, and the place past it
+pub line-at-place : (text : List ℕ) (at : ℕ) → FirstLine (lineAt text at) (drop at text)
+line-at-place = whole.line-first
+
+pub place-past-line : (text : List ℕ) (at : ℕ) → IsPast text at (pastLine text at)
+place-past-line text at = places.past-first text at (pastLine text at) refl
+
 -- there is one first line of a text
 pub first-line-one : (text : List ℕ) → Single (λ line. FirstLine line text)
 first-line-one text one other p q = whole.first-only p ∙ sym (whole.first-only q)
@@ -112,6 +119,10 @@ module _ {M : Type 1} (𝓤 : URA M) (H : Heap 𝓤) (A : Atoms 𝓤) (mem : Mem
 
   pub next-asks-nothing : (walk : Walk) → ent 𝓤 (emp 𝓤) (next.clauses 𝓤 H A mem run (κ, tt) (walk, tt) .requires tt)
   next-asks-nothing walk = id⊢ 𝓤 (emp 𝓤)
+
+-- what is handed out is the line and the walk, and nothing else
+pub handed-whole : (handed : Handed) → handed ≡ record { line = handed .line; walk = handed .walk }
+handed-whole handed = refl
 
 -- 2g, the walk as a whole: from `start` by `next` until none is left just the lines of the text are handed out, in order,
 -- and the place is then the text's length
