@@ -2,10 +2,17 @@
 -- Each is a line over a law of this folder or of the writer. Assumes nothing.
 use Prim.Native.Nat.{ℕ, _≤_}
 use mathlib.Core.Path.{_≡_, refl, sym, ap, _∙_}
+use mathlib.Core.List.{List, [], _∷_, _++_}
 use lib.ListN.{take}
 use contract.Lifetimes.{Lfts}
 use denote.Ref.{now}
 use Rattle.ground.specs.Refusal.{right}
+use Rattle.ground.specs.Spelling.{DigitsOf}
+use Rattle.ground.specs.Digits.{spelled}
+use Rattle.ground.proofs.Promises.{spelled-exactly}
+use Rattle.fields.specs.Meaning.{tabbed}
+use Rattle.writer.specs.Writing.{hourText}
+use Rattle.writer.specs.Line.{lineWith}
 use Rattle.writer.specs.Meaning.{Writes}
 use Rattle.writer.specs.declared.Written.{Written}
 use Rattle.writer.specs.declared.Written.the-variants.{Length}
@@ -28,6 +35,15 @@ write-plan-line-single κs order chamber start buffer one other held kept p q = 
 -- the text of a plan line is these three fields and no more: the order line and the chamber as plain numbers, and the start
 pub plan-text : (order chamber start : ℕ) → InRange order chamber start → PlanText order chamber start (planText order chamber start)
 plan-text = back.plan-text
+
+-- of whatever numbers it is the digits of order line and chamber and the text of the start, with a tab between each two and byte 10 behind
+pub plan-text-exactly :
+    (order chamber start : ℕ) (first second : List ℕ) → DigitsOf order first → DigitsOf chamber second
+    → planText order chamber start ≡ tabbed (first ∷ second ∷ hourText 44 start ∷ []) ++ 10 ∷ []
+unfolding planText
+plan-text-exactly order chamber start first second ordered housed =
+    let line : List ℕ → List ℕ → List ℕ = λ one other. lineWith (one ∷ other ∷ hourText 44 start ∷ []) in
+    ap (λ word. line word (spelled chamber)) (sym (spelled-exactly order first .1 ordered)) ∙ ap (line first) (sym (spelled-exactly chamber second .1 housed))
 
 -- 1b, 1c: a plan line is refused by 4 exactly when a number is out of its range, whatever the room, then by 7 exactly when its text is
 -- longer than the buffer, and every byte stays; in every other case its text stands at the front, every other byte stays, and its

@@ -1,9 +1,9 @@
 -- What this room promises, of the answers themselves and of the definitions that its contracts cite, at the comma.
 -- Each is a line over a law of this folder. Assumes nothing.
-use Prim.Native.Nat.{ℕ, suc, _^_, _≤_, _<_}
+use Prim.Native.Nat.{ℕ, suc, _+_, _/_, _%_, _^_, _≤_, _<_}
 use mathlib.Core.Path.{_≡_, refl, sym, ap, _∙_}
 use mathlib.Core.Bool.{true}
-use mathlib.Core.List.{List, [], _∷_}
+use mathlib.Core.List.{List, [], _∷_, _++_}
 use mathlib.Core.Logic.{_↔_}
 use lib.ListN.{length, take}
 use lib.Dec.{leb}
@@ -12,14 +12,16 @@ use borrow.Author.Tests.{leb-true, le-leb, lt-leb}
 use contract.Lifetimes.{Lfts}
 use denote.Ref.{now}
 use Rattle.ground.specs.Refusal.{Read, wrong, right}
+use Rattle.ground.specs.Spelling.{DigitsOf}
 use Rattle.ground.specs.Digits.{spelled}
 use Rattle.ground.specs.Buffer.{fitted, lengthOf, bufferAfter}
 use Rattle.ground.specs.Outcome.{Injective, Single}
+use Rattle.ground.proofs.Promises.{spelled-exactly}
 use Rattle.ground.proofs.Digits.{spelled-some, spelled-most, spelled-below, length-last-digits}
 use Rattle.ground.proofs.Outcome.{single-value}
 use Rattle.hours.specs.Reading.{hourOf}
 use Rattle.texts.specs.Meaning.{LiesAt}
-use Rattle.fields.specs.Meaning.{allClean, Splits}
+use Rattle.fields.specs.Meaning.{allClean, tabbed, Splits}
 use Rattle.writer.specs.Writing.{hourText, hourWritten, asLength, textIn, frontOf}
 use Rattle.writer.specs.Line.{fieldsAfter, lineWith, lineMade, lineIn, bytesOfAll}
 use Rattle.writer.specs.Meaning.{HourText, EndsIn, Writes, PutBehind}
@@ -54,9 +56,9 @@ pub digit-count-means :
 digit-count-means κs number count after learnt =
     rw learnt (spelled-some number, λ most. (spelled-below (suc most) number, spelled-most most number))
 
--- digits that are put are the last of the number, as many as the buffer has bytes
+-- digits that are put are the last of the number, as many as the buffer has bytes; nothing is answered
 pub put-digits-means :
-    (κs : Lfts 1) (number : ℕ) (buffer : _) (answer : _) (after : _) → put-digits.Learnt κs (number, (buffer, tt)) answer after
+    (κs : Lfts 1) (number : ℕ) (buffer : _) (answer : Unit {0}) (after : _) → put-digits.Learnt κs (number, (buffer, tt)) answer after
     → EndsIn number (now (after .1 .0)) × (length (now (after .1 .0)) ≡ length (now buffer))
 put-digits-means κs number buffer answer after learnt =
     rw learnt (writing.ends-in (length (now buffer)) number, length-last-digits (length (now buffer)) number)
@@ -64,6 +66,18 @@ put-digits-means κs number buffer answer after learnt =
 -- an hour's text is a plain whole part, the comma and two digits, and spells the hour
 pub hour-text : (hour : ℕ) → hour ≤ 999_999 → HourText hour (hourText 44 hour)
 hour-text = writing.hour-text
+
+-- of whatever number, also above 999,999, it is the digits of the whole hours, the comma and the last two digits; and no other text is
+pub hour-text-exactly :
+    (hour : ℕ) (text : List ℕ)
+    → (text ≡ hourText 44 hour)
+    ↔ ((whole : List ℕ) × DigitsOf (hour / 100) whole × (text ≡ whole ++ 44 ∷ (48 + hour / 10 % 10) ∷ (48 + hour % 10) ∷ []))
+unfolding hourText
+hour-text-exactly hour text =
+    let whole-exactly = spelled-exactly (hour / 100) in (
+      λ same. (spelled (hour / 100), whole-exactly (spelled (hour / 100)) .0 refl, same),
+      λ stands. stands .2 ∙ ap (λ whole. whole ++ 44 ∷ (48 + hour / 10 % 10) ∷ (48 + hour % 10) ∷ []) (whole-exactly (stands .0) .1 (stands .1)),
+    )
 
 -- the test of an hour to be written is that it is at most 999,999
 in-hours : (hour : ℕ) → (leb hour 999_999 ≡ true) ↔ (hour ≤ 999_999)
@@ -111,6 +125,10 @@ pub fields-put :
     (field : Read (List ℕ)) (fields : List (Read (List ℕ))) (buffer : List ℕ) → bytesOfAll (field ∷ fields) ≤ length buffer
     → lineIn (fieldsAfter (right 0) (field ∷ fields) buffer .0) (fieldsAfter (right 0) (field ∷ fields) buffer .1) ≡ lineMade (field ∷ fields)
 fields-put field fields buffer room = line.line-put (right tt) field fields buffer room (record { place = refl; holds = refl })
+
+-- the line of fields, whatever stands in them, has a tab between each two and byte 10 behind
+pub line-exactly : (fields : List (List ℕ)) → lineWith fields ≡ tabbed fields ++ 10 ∷ []
+line-exactly fields = refl
 
 -- and such a line splits into just these fields, where none has a tab or a line end in it
 pub line-splits : (field : List ℕ) (fields : List (List ℕ)) → allClean (field ∷ fields) ≡ true → Splits (lineWith (field ∷ fields)) (field ∷ fields)
@@ -179,8 +197,8 @@ digit-count-single κs number after = single-value (length (spelled number))
 
 pub put-digits-single :
     (κs : Lfts 1) (number : ℕ) (buffer : _) (one other : _) (held kept : _) → put-digits.Learnt κs (number, (buffer, tt)) one held
-    → put-digits.Learnt κs (number, (buffer, tt)) other kept → now (held .1 .0) ≡ now (kept .1 .0)
-put-digits-single κs number buffer one other held kept p q = p ∙ sym q
+    → put-digits.Learnt κs (number, (buffer, tt)) other kept → (one ≡ other) × (now (held .1 .0) ≡ now (kept .1 .0))
+put-digits-single κs number buffer one other held kept p q = (refl, p ∙ sym q)
 
 pub write-hour-single :
     (κs : Lfts 1) (hour : ℕ) (buffer : _) (one other : Written) (held kept : _) → write-hour.Learnt κs (hour, (buffer, tt)) one held
