@@ -25,12 +25,19 @@ use Rattle.ground.proofs.Digits as digits
 use Rattle.ground.proofs.Buffer.{front-of-onto, rest-of-onto, length-of-onto}
 use Rattle.ground.proofs.check.Reads as check-reads
 use Rattle.ground.proofs.within.Reads as within-reads
+use Rattle.ground.proofs.limits.Reads as limits-reads
 
 -- the limits are the paper's: hours, chambers, plain numbers, runs, orders taken, bytes of a text, and the lines that an order can stand on
 pub limits :
     (lastHour ≡ 999_999) × (mostChambers ≡ 8) × (lastPlain ≡ 9_999) × (longestRun ≡ 9_999) × (mostOrders ≡ 512) × (longestText ≡ 65_536)
     × (firstOrderLine ≡ 2) × (lastOrderLine ≡ 513)
 limits = (refl, refl, refl, refl, refl, refl, refl, refl)
+
+-- and so are the constants of the code, in the same order
+pub limits-given :
+    (κs : Lfts 0) (numbers : List ℕ) (after : _) → limits-reads.Learnt κs tt numbers after
+    → numbers ≡ 999_999 ∷ 8 ∷ 9_999 ∷ 9_999 ∷ 512 ∷ 65_536 ∷ 2 ∷ 513 ∷ []
+limits-given κs numbers after learnt = learnt
 
 -- a number lies in a range exactly when it is at least the low end and at most the high end
 pub within-exactly : (low high number : ℕ) → (within low high number ≡ true) ↔ ((low ≤ number) × (number ≤ high))

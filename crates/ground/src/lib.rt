@@ -2,7 +2,10 @@
 // the limits that more than one room tests, and the two tests that every row of checks is made of. Assumes nothing.
 ghost use mathlib.Core.Path.{_≡_};
 ghost use mathlib.Core.Bool.{cond};
+ghost use mathlib.Core.List.{[], _∷_};
 ghost use Rattle.ground.specs.Range.{within};
+ghost use Rattle.ground.specs.Limits.{lastHour, mostChambers, lastPlain, longestRun, mostOrders, longestText};
+ghost use Rattle.ground.specs.Limits.{firstOrderLine, lastOrderLine};
 
 // The last hour, in hundredths: 9999,99.
 pub const LAST_HOUR: u32 = 999_999;
@@ -27,6 +30,23 @@ pub const FIRST_ORDER_LINE: u32 = 2;
 
 // The last one, in a list of as many orders as a book takes.
 pub const LAST_ORDER_LINE: u32 = MOST_ORDERS + 1;
+
+// The limits as numbers: a law can name what a function gives, and no constant.
+fn limits() -> [usize; 8]
+    ensures { λ r. ⌜ r
+        ≡ lastHour ∷ mostChambers ∷ lastPlain ∷ longestRun ∷ mostOrders ∷ longestText ∷ firstOrderLine ∷ lastOrderLine ∷ [] ⌝ }
+{
+    [
+        LAST_HOUR as usize,
+        MOST_CHAMBERS as usize,
+        LAST_PLAIN as usize,
+        LONGEST_RUN as usize,
+        MOST_ORDERS as usize,
+        LONGEST_TEXT,
+        FIRST_ORDER_LINE as usize,
+        LAST_ORDER_LINE as usize,
+    ]
+}
 
 // A check's number where it is not met, else what the checks after it come to; 0 is no refusal.
 pub fn check(met: bool, number: u32, rest: u32) -> u32
