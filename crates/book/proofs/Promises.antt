@@ -33,6 +33,7 @@ use Rattle.book.proofs.Book.«open».Reads as opening
 use Rattle.book.proofs.Book.take.Reads as take
 use Rattle.book.proofs.Book.hold.Reads as holding
 use Rattle.book.proofs.Book.limits.Reads as limits
+use Rattle.book.proofs.yes_numbers.Reads as yes-numbers
 
 -- The paper's word and numbers for each case of the answer.
 
@@ -90,6 +91,12 @@ decision-back (right (Chamber chamber start)) = refl
 -- "associated constants for 8, 512 and 999,999"
 pub limits-given : (κs : Lfts 0) (numbers : List ℕ) (after : _) → limits.Learnt κs tt numbers after → numbers ≡ 8 ∷ 512 ∷ 999_999 ∷ []
 limits-given κs numbers after learnt = learnt
+
+-- the two numbers of a yes by the names that its case gives them: the chamber, then the start
+pub yes-named :
+    (κs : Lfts 0) (chamber start : ℕ) (numbers : List ℕ) (after : _) → yes-numbers.Learnt κs (Yes chamber start, tt) numbers after
+    → numbers ≡ chamber ∷ start ∷ []
+yes-named κs chamber start numbers after learnt = learnt
 
 -- Opening a book with these numbers, and whatever comes of it.
 module _ (κs : Lfts 0) (chambers run : ℕ) (outcome : Opened) (after : _) (learnt : opening.Learnt κs (chambers, (run, tt)) outcome after) where

@@ -40,6 +40,17 @@ pub enum Answer {
     Refused(u32),
 }
 
+// The numbers of a yes by their names, zeros of any other answer: a law can name what a function gives, and no field of an enum's case.
+fn yes_numbers(answer: Answer) -> [u32; 2]
+    ensures { λ r. ⌜ r ≡ told answer .chamber ∷ told answer .start ∷ [] ⌝ }
+{
+    match answer {
+        Answer::Yes { chamber, start } => [chamber, start],
+        Answer::No => [0, 0],
+        Answer::Refused(_) => [0, 0],
+    }
+}
+
 // An answer and the next book.
 pub struct Taken {
     pub answer: Answer,

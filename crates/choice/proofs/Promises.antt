@@ -1,6 +1,7 @@
 -- What this room promises, of whatever its contract admits. Assumes nothing.
 use Prim.Native.Nat.{ℕ}
 use mathlib.Core.Path.{_≡_, sym, _∙_}
+use mathlib.Core.List.{List, [], _∷_}
 use mathlib.Core.Logic.{_↔_}
 use lib.ListN.{take}
 use contract.Lifetimes.{Lfts}
@@ -12,6 +13,7 @@ use Rattle.choice.specs.declared.Choice.{Choice}
 use Rattle.choice.specs.declared.Choice.the-variants.{Nothing, Chamber}
 use Rattle.choice.proofs.Fitting.{right-exactly}
 use Rattle.choice.proofs.best_fit.Reads as best-fit
+use Rattle.choice.proofs.chosen_numbers.Reads as chosen-numbers
 
 -- Any hours, any run, any number of chambers with any free hours.
 module _ (κs : Lfts 1) (ready due run : ℕ) (hours : _) (count : ℕ) where
@@ -34,6 +36,12 @@ module _ (κs : Lfts 1) (ready due run : ℕ) (hours : _) (count : ℕ) where
   -- 1d: the contract admits a single outcome
   pub best-fit-single : (after : _) → Single (λ choice. best-fit.Learnt κs (ready, (due, (run, (hours, (count, tt))))) choice after)
   best-fit-single after = single-value (bestFit ready due run 1 (take count (hours .now)))
+
+-- the two numbers of a chamber chosen by the names that its case gives them: the chamber, then the start
+pub chamber-named :
+    (κs : Lfts 0) (chamber start : ℕ) (numbers : List ℕ) (after : _) → chosen-numbers.Learnt κs (Chamber chamber start, tt) numbers after
+    → numbers ≡ chamber ∷ start ∷ []
+chamber-named κs chamber start numbers after learnt = learnt
 
 -- 1a: the function asks nothing of what it is passed
 pub nothing-asked : (κs : Lfts 1) (passed : _) → best-fit.Asked κs passed

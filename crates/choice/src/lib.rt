@@ -4,11 +4,23 @@ ghost use mathlib.Core.Path.{_≡_};
 ghost use Prim.Native.Nat.{max};
 ghost use lib.ListN.{take};
 ghost use Rattle.choice.specs.BestFit.{offer, better, bestFit};
+ghost use Rattle.choice.specs.Steps.{numbersIn};
 
 // The chamber chosen and the start there, or nothing where none fits.
 pub enum Choice {
     Nothing,
     Chamber { chamber: u32, start: u32 },
+}
+
+// The numbers of a choice by their names, zeros where nothing is chosen: a law can name what a function gives, and no field of an enum's
+// case.
+fn chosen_numbers(choice: Choice) -> [u32; 2]
+    ensures { λ r. ⌜ r ≡ numbersIn choice ⌝ }
+{
+    match choice {
+        Choice::Nothing => [0, 0],
+        Choice::Chamber { chamber, start } => [chamber, start],
+    }
 }
 
 // The later of two hours.

@@ -12,6 +12,9 @@ use contract.Lifetimes.{Lfts}
 use denote.Ref.{RefT, now}
 use Rattle.ground.specs.Refusal.{right}
 use Rattle.ground.specs.Limits.{longestText, firstOrderLine}
+use Rattle.ground.specs.Text.{bytes}
+use Rattle.ground.specs.Buffer.{onto, lengthOf, bufferAfter}
+use Rattle.ground.proofs.Promises.{onto-exactly}
 use Rattle.texts.specs.Lines.{linesOf, lineAt}
 use Rattle.writer.specs.declared.Written.{Written}
 use Rattle.writer.specs.declared.Written.the-variants.{Length}
@@ -19,6 +22,7 @@ use Rattle.lines.specs.Reading.{headingOf}
 use Rattle.lines.specs.Meaning.{HeadingReads}
 use Rattle.lines.proofs.Promises.{heading-reads}
 use Rattle.planlines.specs.Writing.{planText}
+use Rattle.planlines.specs.Meaning.{InRange}
 use Rattle.planlines.proofs.Promises.{plan-line-writes}
 use Rattle.planlines.proofs.write_plan_line.Reads as write-plan-line
 use Rattle.book.specs.Soundness.{freshBook}
@@ -35,7 +39,7 @@ use Rattle.judgements.specs.Judgements.{checkedLine}
 use Rattle.judgements.specs.Meaning.{RightLine}
 use Rattle.limit.specs.Example.{paperList, paperPlan}
 use Rattle.limit.specs.Yeses.{yesPlan}
-use Rattle.limit.specs.Meaning.{SaysBad, EndsInSum, YesesWritten}
+use Rattle.limit.specs.Meaning.{SaysBad, EndsInSum, YesesWritten, YesesPrinted}
 use Rattle.limit.proofs.Bytes.{limit-on-bytes}
 use Rattle.limit.proofs.YesText.{line-short}
 use Rattle.limit.proofs.YesPlan as yes
@@ -96,6 +100,21 @@ wrote-plan-line {κs} order chamber start text wrote =
     sym (wrote .front)
     ∙ plan-line-writes κs order chamber start (wrote .buffer) (Length (wrote .count)) (wrote .after) (wrote .learnt) .front (wrote .count) refl
 
+-- with numbers in range it can be, to whatever buffer of 14 bytes or more
+can-write :
+    {κs : Lfts 1} (order chamber start : ℕ) → InRange order chamber start → (buffer : RefT (List ℕ)) → 14 ≤ length (now buffer)
+    → Wrote κs order chamber start (planText order chamber start)
+can-write order chamber start range buffer room =
+    let text : List ℕ = planText order chamber start in
+    let fits = printed.plan-line-fits order chamber start range (now buffer) room in
+    record {
+      buffer = buffer;
+      count = length text;
+      after = (order, (chamber, (start, (record { ptr = buffer .ptr; name = buffer .name; now = onto text (now buffer) }, tt))));
+      learnt = (sym (ap lengthOf fits), sym (ap (bufferAfter (now buffer)) fits));
+      front = onto-exactly text (now buffer) .0;
+    }
+
 -- A clean list, and `write_plan_line`.
 module _ (list : List ℕ) (heading : Heading) (orders : List Order) (clean : CleanList list heading orders) (κs : Lfts 1) where
   abbrev answers : List Answer
@@ -113,6 +132,13 @@ module _ (list : List ℕ) (heading : Heading) (orders : List Order) (clean : Cl
       let fits : length text ≤ length (now buffer) = omega (arith, line-short range) in
       (length text, plan-line-writes κs (2 + length front) chamber start buffer answer after learnt .written (length text) .1 (range, fits, refl))
 
+  -- so the yeses can all be written
+  pub yeses-can-be-written : (buffer : RefT (List ℕ)) → 14 ≤ length (now buffer) → YesesWritten (Wrote κs) 2 answers (yesPlan 2 answers)
+  yeses-can-be-written buffer room =
+      printed.written-each (Wrote κs) 2 answers
+      (λ front chamber start rest among.
+      can-write (2 + length front) chamber start (printed.yes-in-range list heading orders clean front chamber start rest among) buffer room)
+
   -- and the lines that are written of the yeses, joined in the order of the list, are a plan for which the checker prints `right` and their
   -- number
   pub written-yeses-are-right :
@@ -120,6 +146,21 @@ module _ (list : List ℕ) (heading : Heading) (orders : List Order) (clean : Cl
   written-yeses-are-right plan written =
       printed.printed-right list plan (yeses answers)
       (ap (judged list) (printed.written-plan wrote-plan-line written) ∙ yes.yeses-are-right list heading orders clean)
+
+  -- they are the yeses that the desk prints, with the numbers of their lines
+  pub yeses-in-print :
+      (plan : List ℕ) (count : ℕ)
+      → YesesPrinted (Wrote κs) (linesOf (replyOf list)) plan count ↔ (YesesWritten (Wrote κs) 2 answers plan × (count ≡ yeses answers))
+  yeses-in-print = printed.clean-yeses list heading orders clean (Wrote κs)
+
+-- 3a over what is printed, of any list: where every line of the desk's reply says yes or no but the last, which is the sum, the plan lines
+-- that are written of the numbers on the yes lines, one behind the other, make the checker print `right` and how many they are
+pub printed-yeses-are-right :
+    (κs : Lfts 1) (list plan : List ℕ) (count : ℕ) → YesesPrinted (Wrote κs) (linesOf (replyOf list)) plan count → RightLine count (checkedLine list plan)
+printed-yeses-are-right κs list plan count says =
+    let clean = printed.yeses-of-clean list says in
+    let written = yeses-in-print list (clean .0) (clean .1) (clean .2) κs plan count .0 says in
+    rw (written .1) (written-yeses-are-right list (clean .0) (clean .1) (clean .2) κs plan (written .0))
 
 -- 3b: with m chambers, where the desk says yes A times, a plan that is judged right with Z loads has ((m + 1)^m − m^m) · Z ≤ (m + 1)^m · A
 pub at-least-its-part :
@@ -149,6 +190,13 @@ pub at-least-five-of-nine :
     (list plan : List ℕ) (heading : Heading) (orders : List Order) (A Z : ℕ) → CleanList list heading orders → heading .chambers ≡ 2
     → yeses (answersFrom (bookFor heading) (orderLines list)) ≡ A → judged list plan ≡ right Z → 5 * Z ≤ 9 * A
 at-least-five-of-nine list plan heading orders = at-least-its-part list plan heading orders 2
+
+-- the paper's list and its plan, byte for byte
+pub paper-bytes :
+    (paperList ≡ bytes "steam\t2\t3\n7\t0\t20\n7\t0\t20\n7\t0\t20\n12\t1\t11\n12\t1\t11\n3\t2\t8\n3\t2\t8\n3\t2\t8\n3\t2\t8\n")
+    × (paperPlan ≡ bytes "7\t1\t2\n8\t2\t2\n9\t1\t5\n10\t2\t5\n5\t1\t8\n6\t2\t8\n2\t1\t11\n3\t2\t11\n4\t1\t14\n")
+unfolding paperList paperPlan
+paper-bytes = (refl, refl)
 
 -- "Five times 9 is nine times 5: the limit of the third demand is met exactly": the paper's list is clean, and its plan has nine loads
 -- where the desk says yes five times

@@ -6,7 +6,7 @@ use mathlib.Core.List.{List, [], _∷_, _++_}
 use Rattle.fields.specs.Meaning.{Splits}
 use Rattle.book.specs.declared.Answer.{Answer}
 use Rattle.book.specs.declared.Answer.the-variants.{Yes, No, Refused}
-use Rattle.replies.specs.Meaning.{SumOf}
+use Rattle.replies.specs.Meaning.{ReplyTo, SumOf}
 
 -- "line number, then … `bad` and the refusal number": a line whose second field is that word, as its bytes
 pub record SaysBad (line : List ℕ) : Type 0 where
@@ -34,3 +34,15 @@ pub data YesesWritten (Wrote : ℕ → ℕ → ℕ → List ℕ → Type 0) : �
   with-refused :
       {line number : ℕ} {answers : List Answer} {plan : List ℕ} → YesesWritten Wrote (suc line) answers plan
       → YesesWritten Wrote line (Refused number ∷ answers) plan
+
+-- the plan of the yeses that a reply prints, and how many they are, over what it means that a plan line was written of its three numbers:
+-- each line that says yes as a plan line, one behind the other; one that says no has none, and the last is the sum
+pub data YesesPrinted (Wrote : ℕ → ℕ → ℕ → List ℕ → Type 0) : List (List ℕ) → List ℕ → ℕ → Type 0 where
+  sum-line : (taken kept : ℕ) (reply : List ℕ) → SumOf taken kept reply → YesesPrinted Wrote (reply ∷ []) [] 0
+  yes-line :
+      {replies : List (List ℕ)} {plan : List ℕ} {count : ℕ} (line chamber start : ℕ) (reply text : List ℕ)
+      → ReplyTo line (Yes chamber start) reply → Wrote line chamber start text → YesesPrinted Wrote replies plan count
+      → YesesPrinted Wrote (reply ∷ replies) (text ++ plan) (suc count)
+  no-line :
+      {replies : List (List ℕ)} {plan : List ℕ} {count : ℕ} (line : ℕ) (reply : List ℕ) → ReplyTo line No reply
+      → YesesPrinted Wrote replies plan count → YesesPrinted Wrote (reply ∷ replies) plan count

@@ -151,6 +151,17 @@ sum-writes κs taken kept buffer answer after learnt =
     answers.writes true (Unit {0}) answers.always (sumLine taken kept) (now buffer) (right (sumLine taken kept)) refl answer (now (after .1 .1 .0)) (learnt .0)
     (learnt .1 .0)
 
+-- and each has room in 48 bytes, so that it is never refused by 7 there
+pub answer-fits :
+    (κs : Lfts 1) (line : ℕ) (given : Answer) (buffer : _) (answer : Written) (after : _) → write-answer.Learnt κs (line, (given, (buffer, tt))) answer after
+    → (StartsPastLast given → ⊥) → length (replyLine line given) ≤ 48
+answer-fits κs line given buffer answer after learnt never = rw (replying.tested line given, replying.in-range given never) at (learnt .1 .1)
+
+pub sum-fits :
+    (κs : Lfts 1) (taken kept : ℕ) (buffer : _) (answer : Written) (after : _) → write-sum.Learnt κs (taken, (kept, (buffer, tt))) answer after
+    → length (sumLine taken kept) ≤ 48
+sum-fits κs taken kept buffer answer after learnt = learnt .1 .1
+
 -- The reply to a text, begun by `begin` and written out by `fill` with whatever buffers of 48 bytes or more.
 module _ (text : RefT (List ℕ)) where
   -- what `fill` admits, wherever the buffer that it is lent lies
