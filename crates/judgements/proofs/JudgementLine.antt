@@ -16,7 +16,8 @@ use Rattle.ground.proofs.Refusal.{never-right}
 use Rattle.ground.proofs.Promises.{spelled-exactly}
 use Rattle.fields.specs.Meaning.{isClean, allClean, tabbed}
 use Rattle.fields.proofs.Promises.{one-split}
-use Rattle.writer.specs.Line.{textsOf, lineMade, bytesOfAll, lineRoom}
+use Rattle.writer.specs.Line.{lineRoom}
+use Rattle.writer.specs.Steps.{textsOf, lineMade, bytesOfAll}
 use Rattle.writer.proofs.Promises.{line-splits}
 use Rattle.planlines.proofs.RoundTrip.{clean-number}
 use Rattle.plans.specs.Judging.{judged, asJudged}

@@ -13,7 +13,7 @@ use Rattle.ground.proofs.Tests.{by-test, both, first-of, second-of}
 use Rattle.ground.proofs.Promises.{within-exactly}
 use Rattle.classes.specs.Classes.{comma}
 use Rattle.writer.specs.Writing.{hourText, hourWritten}
-use Rattle.writer.specs.Line.{textsOf, lineMade}
+use Rattle.writer.specs.Steps.{textsOf, lineMade}
 use Rattle.writer.proofs.Line.{hour-within, hour-above}
 use Rattle.planlines.specs.Writing.{planText, placesChecked, planWritten, planFields}
 use Rattle.planlines.specs.Meaning.{InRange}

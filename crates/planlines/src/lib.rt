@@ -3,7 +3,7 @@
 ghost use mathlib.Core.Path.{_≡_};
 ghost use Rattle.ground.specs.Buffer.{fitted, lengthOf, bufferAfter};
 ghost use Rattle.writer.specs.Writing.{asLength};
-ghost use Rattle.writer.specs.Line.{Comes};
+ghost use Rattle.writer.specs.Steps.{Comes};
 ghost use Rattle.planlines.specs.Writing.{planBegun, planFields, planWritten};
 use ground::FIRST_ORDER_LINE;
 use ground::LAST_ORDER_LINE;

@@ -11,7 +11,8 @@ use Rattle.ground.specs.Limits.{lastHour}
 use Rattle.ground.proofs.Tests.{by-test, never-both}
 use Rattle.ground.specs.Text.{bytes}
 use Rattle.fields.specs.Meaning.{tabbed}
-use Rattle.writer.specs.Line.{lineRoom, bytesOfAll, textsOf, lineMade}
+use Rattle.writer.specs.Line.{lineRoom}
+use Rattle.writer.specs.Steps.{bytesOfAll, textsOf, lineMade}
 use Rattle.writer.proofs.Line.{hour-within, hour-above}
 use Rattle.book.specs.declared.Answer.{Answer}
 use Rattle.book.specs.declared.Answer.the-variants.{Yes, No, Refused}

@@ -20,7 +20,8 @@ use Rattle.texts.specs.Lines.{lineEnd}
 use Rattle.fields.specs.Fields.{tab}
 use Rattle.fields.specs.Meaning.{tabbed}
 use Rattle.writer.specs.Writing.{hourText, hourWritten}
-use Rattle.writer.specs.Line.{frontAfter, placeAfter, heldAfter, fieldsAfter, Comes, bytesOf, bytesOfAll, lineWith, textsOf, lineMade, lineIn}
+use Rattle.writer.specs.Line.{frontAfter, placeAfter, heldAfter, lineWith, lineIn}
+use Rattle.writer.specs.Steps.{fieldsAfter, Comes, bytesOf, bytesOfAll, textsOf, lineMade}
 use Rattle.writer.proofs.Writing.{length-of-text}
 
 -- what a field put behind a line so far comes to

@@ -23,7 +23,8 @@ use Rattle.hours.specs.Reading.{hourOf}
 use Rattle.texts.specs.Meaning.{LiesAt}
 use Rattle.fields.specs.Meaning.{allClean, tabbed, Splits}
 use Rattle.writer.specs.Writing.{hourText, hourWritten, asLength, textIn, frontOf}
-use Rattle.writer.specs.Line.{fieldsAfter, lineWith, lineMade, lineIn, bytesOfAll}
+use Rattle.writer.specs.Line.{lineWith, lineIn}
+use Rattle.writer.specs.Steps.{fieldsAfter, lineMade, bytesOfAll}
 use Rattle.writer.specs.Meaning.{HourText, EndsIn, Writes, PutBehind}
 use Rattle.writer.specs.declared.Written.{Written}
 use Rattle.writer.specs.declared.Written.the-variants.{Length, Refused}

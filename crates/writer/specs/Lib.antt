@@ -2,3 +2,4 @@
 pub mod Writing
 pub mod Line
 pub mod Meaning
+pub mod Steps

@@ -5,7 +5,7 @@ use native.Mathlib.Omega.{arith}
 use borrow.Author.Needs.{needs}
 use Rattle.ground.specs.Digits.{spelled}
 use Rattle.ground.specs.Text.{bytes}
-use Rattle.writer.specs.Line.{bytesOfAll}
+use Rattle.writer.specs.Steps.{bytesOfAll}
 use Rattle.writer.proofs.Line.{then-put, last-put, number-short}
 use Rattle.judgements.proofs.JudgementLine.{word-short}
 use Rattle.judgements.proofs.put_fault.Statement.{statement}

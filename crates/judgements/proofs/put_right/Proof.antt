@@ -2,7 +2,7 @@
 use native.Mathlib.Omega.{arith}
 use borrow.Author.Needs.{needs}
 use Rattle.ground.specs.Text.{bytes}
-use Rattle.writer.specs.Line.{bytesOfAll}
+use Rattle.writer.specs.Steps.{bytesOfAll}
 use Rattle.writer.proofs.Line.{then-put, last-put, number-short}
 use Rattle.judgements.proofs.put_right.Statement.{statement}
 use Rattle.judgements.proofs.put_right.Tie as tie

@@ -2,7 +2,7 @@
 use mathlib.Core.Path.{sym, _∙_}
 use native.Mathlib.Omega.{arith}
 use borrow.Author.Needs.{needs}
-use Rattle.writer.specs.Line.{bytesOfAll}
+use Rattle.writer.specs.Steps.{bytesOfAll}
 use Rattle.writer.proofs.Line.{line-put, line-written, number-short, hour-short}
 use Rattle.planlines.specs.Writing.{placesChecked, planWritten}
 use Rattle.planlines.proofs.PlanLine.{line-of-fields}

@@ -2,7 +2,7 @@
 use native.Mathlib.Omega.{arith}
 use borrow.Author.Needs.{needs}
 use Rattle.ground.specs.Text.{bytes}
-use Rattle.writer.specs.Line.{bytesOfAll}
+use Rattle.writer.specs.Steps.{bytesOfAll}
 use Rattle.writer.proofs.Line.{last-put}
 use Rattle.replies.proofs.put_answer.Statement.{statement}
 use Rattle.replies.proofs.put_answer.Tie as tie

@@ -1,7 +1,7 @@
 -- `put_reply` puts the number of a line, and its answer behind it.
 use native.Mathlib.Omega.{arith}
 use borrow.Author.Needs.{needs}
-use Rattle.writer.specs.Line.{bytesOfAll}
+use Rattle.writer.specs.Steps.{bytesOfAll}
 use Rattle.writer.proofs.Line.{then-put, number-short}
 use Rattle.replies.proofs.put_reply.Statement.{statement}
 use Rattle.replies.proofs.put_reply.Tie as tie

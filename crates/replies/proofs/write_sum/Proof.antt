@@ -5,7 +5,8 @@ use native.Mathlib.Omega.{arith}
 use borrow.Author.Needs.{needs}
 use Rattle.ground.specs.Refusal.{right}
 use Rattle.ground.specs.Text.{bytes}
-use Rattle.writer.specs.Line.{bytesOfAll, lineRoom}
+use Rattle.writer.specs.Line.{lineRoom}
+use Rattle.writer.specs.Steps.{bytesOfAll}
 use Rattle.writer.proofs.Line.{line-put, line-written, number-short}
 use Rattle.replies.specs.Steps.{sumPut}
 use Rattle.replies.proofs.Replying.{sum-of-fields, sum-fits}
