@@ -1,5 +1,7 @@
 // The book: the rule by which an order is answered, with the free hours of the chambers.
 // Any numbers may come, and any book, sound or not. Assumes nothing.
+#![tactic(auto)]
+
 ghost use Rattle.std.specs.Prelude.{◌≡◌, ◌&&◌, ◌<◌, take, drop, [], ◌∷◌};
 ghost use Rattle.ground.specs.Limits.{last_hour, most_chambers, most_orders};
 ghost use Rattle.ground.specs.Refusal.{right, number_of};

@@ -2,6 +2,8 @@
 // A line that is empty or starts with # is no case and is only written. Any bytes may
 // come; a case that cannot be read is answered `unread`,
 // and a last line that is not ended is taken as if it were. Assumes nothing.
+#![tactic(auto)]
+
 mod book_cases;
 mod case_text;
 mod kinds;

@@ -2,6 +2,8 @@
 // list that its first one names, and prints the judgement.
 // What is judged and how it is printed is the library's; here it is read in, called and written out. A file that cannot be opened or read
 // to its end is unread.
+#![tactic(auto)]
+
 use ground::LONGEST_TEXT;
 use judgements::write_checked;
 use writer::{LINE_ROOM, text_in};

@@ -1,5 +1,7 @@
 // The choice of a chamber for an order: BestFit, with the paper's tie rule.
 // Any numbers and any free hours may come. Assumes nothing.
+#![tactic(auto)]
+
 ghost use Rattle.std.specs.Prelude.{◌≡◌, max, take};
 ghost use Rattle.choice.specs.BestFit.{offer, better, best_fit};
 ghost use Rattle.choice.specs.Steps.{numbers_in};

@@ -1,4 +1,6 @@
 // What a byte is to a reader of hours, numbers, fields or lines. Any byte may come; nothing is asked of the caller. Assumes nothing.
+#![tactic(auto)]
+
 ghost use Rattle.std.specs.Prelude.{◌≡◌};
 ghost use Rattle.classes.specs.Classes.{comma, class_of};
 
@@ -13,6 +15,7 @@ pub enum Class {
 }
 
 // The class of a byte, with the comma for decimal mark.
+#[tactic(auto, unfolding(crate::specs::Classes::class_of))]
 pub fn class_of(byte: u8) -> Class
     ensures { result ≡ class_of comma byte }
 {

@@ -1,5 +1,7 @@
 // The desk program: reads an order list from standard input to its end, and prints the reply.
 // What is read and answered is the library's; here it is read in, called and written out. A read that fails counts as the end of the input.
+#![tactic(auto)]
+
 ghost use Rattle.std.specs.Prelude.{◌≡◌, true, false, ◌<◌};
 ghost use Rattle.replies.specs.Steps.{left_of};
 

@@ -1,5 +1,7 @@
 // A line as fields, cut at tabs: one scan tells how many there are and where they end, and each is then a part of the line.
 // Any bytes may come; what is no single ended line has no field. Assumes nothing.
+#![tactic(auto)]
+
 ghost use Rattle.std.specs.Prelude.{◌≡◌, cond, ◌+◌, ◌<◌, drop};
 ghost use Rattle.fields.specs.Fields.{same_bytes};
 ghost use Rattle.fields.specs.Cutting.{most_counted, no_cut, in_field, ends_line, one_field_more, field_length};

@@ -1,5 +1,7 @@
 // What every room stands on: definitions that several rooms share, in specs/, and their laws, in proofs/;
 // the limits that more than one room tests, and the two tests that every row of checks is made of. Assumes nothing.
+#![tactic(auto)]
+
 ghost use Rattle.std.specs.Prelude.{◌≡◌, cond, [], ◌∷◌};
 ghost use Rattle.ground.specs.Range.{within};
 ghost use Rattle.ground.specs.Limits.{last_hour, most_chambers, last_plain, longest_run, most_orders, longest_text};

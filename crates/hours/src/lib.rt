@@ -1,5 +1,7 @@
 // An hour as text: a field read into hundredths, byte after byte by its class; plain numbers read.
 // Any bytes may come; nothing is asked of the caller. Assumes nothing.
+#![tactic(auto)]
+
 ghost use Rattle.std.specs.Prelude.{◌≡◌, ◌≤◌, length, take};
 ghost use Rattle.classes.specs.Classes.{comma};
 ghost use Rattle.hours.specs.Reading.{longer, next_at_digit, next_at_mark, next, scanned, in_hundredths};

@@ -1,5 +1,7 @@
 // The line of a judgement, written to a lent buffer: right with its number, or the fault; and that of a plan judged for a list.
 // Any judgement, any texts and any buffer may come. Assumes nothing.
+#![tactic(auto)]
+
 ghost use Rattle.std.specs.Prelude.{◌≡◌, ◌≤◌, length};
 ghost use Rattle.ground.specs.Refusal.{right};
 ghost use Rattle.ground.specs.Buffer.{fitted, length_of, buffer_after};

@@ -1,5 +1,7 @@
 // The lines of order lists and plans as numbers: a heading, an order, a load of a plan.
 // Any bytes may come; what is wrong first, in the paper's order, is the refusal. Assumes nothing.
+#![tactic(auto)]
+
 ghost use Rattle.std.specs.Prelude.{◌≡◌};
 ghost use Rattle.ground.specs.Range.{within};
 ghost use Rattle.lines.specs.Reading.{steam_at, ranged, plain_within, hour_within};

@@ -1,5 +1,7 @@
 // A load of a plan held against the order that it names, and against another load.
 // Any numbers may come, and any hours of orders. Assumes nothing.
+#![tactic(auto)]
+
 ghost use Rattle.std.specs.Prelude.{◌≡◌, ◌-◌, suc, get_or};
 ghost use Rattle.ground.specs.Refusal.{number_of};
 ghost use Rattle.ground.specs.Range.{within};

@@ -1,5 +1,7 @@
 // The answers of a list, line by line: how far its reading has come goes in by value and comes back.
 // Any bytes and any progress may come. Assumes nothing.
+#![tactic(auto)]
+
 ghost use Rattle.std.specs.Prelude.{◌≡◌};
 ghost use Rattle.ground.specs.Refusal.{wrong, right};
 ghost use Rattle.texts.specs.Lines.{line_at};

@@ -1,5 +1,7 @@
 // A plan line written to a lent buffer, from its three numbers: order line, chamber and start.
 // Any numbers and any buffer may come. Assumes nothing.
+#![tactic(auto)]
+
 ghost use Rattle.std.specs.Prelude.{◌≡◌};
 ghost use Rattle.ground.specs.Buffer.{fitted, length_of, buffer_after};
 ghost use Rattle.writer.specs.Writing.{as_length};

@@ -1,5 +1,7 @@
 // The checker: an order list and a plan, made by whoever, are judged.
 // Any bytes may come. Assumes nothing.
+#![tactic(auto)]
+
 ghost use Rattle.std.specs.Prelude.{◌≡◌, true, false, [], ◌+◌, ◌≤◌, length, drop};
 ghost use Rattle.ground.specs.Refusal.{wrong, right, number_of};
 ghost use Rattle.ground.specs.Limits.{most_chambers, most_orders, longest_text};

@@ -1,5 +1,7 @@
 // The desk's reply to a list: each of its lines written to a lent buffer, and a buffer filled with as many of them as it has room for.
 // Any numbers, any text, any state of a reply and any buffer may come. Assumes nothing.
+#![tactic(auto)]
+
 ghost use Rattle.std.specs.Prelude.{◌≡◌, ◌+◌, ◌-◌, ◌≤◌, length};
 ghost use Rattle.ground.specs.Refusal.{right};
 ghost use Rattle.ground.specs.Buffer.{fitted, length_of, buffer_after};

@@ -2,6 +2,4 @@
 pub mod Lines
 pub mod WholeText
 pub mod Places
-pub mod ByHand
-pub mod Thin
 pub mod Promises

@@ -88,7 +88,7 @@ handed_on walk line end moved cut lies =
 can_hand : (walk : Walk) → (handed : Handed) × Hands walk handed
 can_hand walk =
     let start = part_start (held walk) walk.at (past walk) in
-    let line : Bor (List ℕ) = record { ref_ptr = (walk.text.ptr.0, walk.text.ptr.1 + start); ghost_name = walk.text.name; now = part_of (held walk) walk.at (past walk) } in
+    let line : Bor (List ℕ) = record { ref_ptr = (walk.text.ref_ptr.0, walk.text.ref_ptr.1 + start); now = part_of (held walk) walk.at (past walk) } in
     (record { line = line; walk = record { text = walk.text; at = past walk } }, handed_on walk line (past walk) refl refl (refl, refl))
 
 -- what is handed out is the line at the walk's place, and the walk is then past it
@@ -112,7 +112,7 @@ walks_out (suc fuel) walk few =
     by_end (held walk) walk.at (ends_here walk)
     (λ left.
     let out = can_hand walk in
-    let rest = walks_out fuel out.0.walk (rw out.1.keeps (omega (arith, hands_past out.1, moves_on (held walk) walk.at left))) in
+    let rest = walks_out fuel out.0.walk (rw (out.1.keeps, length) (omega (arith, hands_past out.1, moves_on (held walk) walk.at left))) in
     let some : 1 ≤ length out.0.line.now = rw (hands_line out.1) (walk_some (held walk) walk.at left) in
     (out.0.line.now ∷ rest.0, rest.1, goes_on walk rest.1 out.0 rest.0 out.1 some rest.2))
 

@@ -40,7 +40,7 @@ pub record Between (text part : List ℕ) (from to : ℕ) : Type 0 where
 
 -- a part lies in the memory of its text, so many bytes from where the text starts
 abbrev pub LiesAt : Bor (List ℕ) → Bor (List ℕ) → ℕ → Type 0
-LiesAt part text place = (part.ptr.0 ≡ text.ptr.0) × (part.ptr.1 ≡ text.ptr.1 + place)
+LiesAt part text place = (part.ref_ptr.0 ≡ text.ref_ptr.0) × (part.ref_ptr.1 ≡ text.ref_ptr.1 + place)
 
 -- two parts that hold the same, in the same place
 abbrev pub OnePart : Bor (List ℕ) → Bor (List ℕ) → Type 0

@@ -1,5 +1,7 @@
 // A text as lines: the line at a place, and the walk that hands out one line after another.
 // Any bytes and any place may come. Assumes nothing.
+#![tactic(auto)]
+
 ghost use Rattle.std.specs.Prelude.{◌≡◌};
 ghost use Rattle.texts.specs.Lines.{line_at, line_start, past_line, part_of, part_start};
 ghost use Rattle.texts.specs.Meaning.{LiesAt, Starts, Hands};

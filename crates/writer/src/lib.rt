@@ -1,5 +1,7 @@
 // One way of writing: an hour to a lent buffer, and a line field behind field in a buffer of its own, written whole or not at all.
 // Any bytes, any numbers, any place and any buffer may come. Assumes nothing.
+#![tactic(auto)]
+
 ghost use Rattle.std.specs.Prelude.{◌≡◌, cond, ◌∷◌, ◌++◌, ◌+◌, ◌-◌, ◌/◌, ◌≤◌, length, leb, ltb};
 ghost use Rattle.ground.specs.Refusal.{right};
 ghost use Rattle.ground.specs.Digits.{spelled, last_digits};
