@@ -1,16 +1,28 @@
 -- What this room promises, of what its functions answer and of the very definitions that their contracts cite.
 -- Each is a line over a law of this folder. Assumes nothing.
 use types.Logic.{Logic}
-use denote.Ref.{Bor}
-use Prim.Native.Nat.{◌≤◌}
-use mathlib.Core.Path.{sym, ◌∙◌}
+use denote.Bor.{Bor, now}
+use Prim.Native.Nat.{ℕ, ◌<◌, ◌≤◌}
+use mathlib.Core.Path.{◌≡◌, refl, sym, ◌∙◌}
+use mathlib.Core.List.{List, [], ◌∷◌}
+use seplogic.Ra.Ura.{Ura}
+use base.Logic.{SProp, ent, emp, via, snd∗, ex_e, id⊢}
+use base.Fml.{Lft}
+use contract.Lifetimes.{Lfts}
+use contract.Monad.{Fun, fact}
+use denote.Triple.Clauses.{Clauses, Ended, AtExit, at_exit, lasts, ensured}
+use denote.Triple.Entry.{Args, Res}
+use prog.Memory.{Memory}
+use prog.Routine.{Routine}
+use types.Logic.{sem}
 use native.Mathlib.Omega.{arith}
-use lib.ListN.{drop}
+use lib.ListN.{length, drop}
 use Rattle.ground.specs.Outcome.{Single}
 use Rattle.ground.proofs.Outcome.{single_value}
 use Rattle.texts.specs.Lines.{line_end, lines_of, line_at, line_start, past_line, part_start}
 use Rattle.texts.specs.Meaning.{joined, AreLines, FirstLine, IsPast, Between, LiesAt, OnePart, LineLies, Starts, Hands, Walked}
-use Rattle.texts.proofs.ByHand.{ℕ, ◌<◌, ◌≡◌, refl, List, [], ◌∷◌, length, RefT, now, Lfts, Walk, Handed, Ura, SProp, Memory, Routine, Fun, Lft, ent, emp, id⊢, fact, ensured, said}
+use Rattle.texts.specs.declared.Walk.{Walk}
+use Rattle.texts.specs.declared.Handed.{Handed}
 use Rattle.texts.proofs.Lines as cut
 use Rattle.texts.proofs.WholeText as whole
 use Rattle.texts.proofs.Places as places
@@ -102,6 +114,13 @@ module _ (κs : Lfts 1) (text : Bor (List ℕ)) (from to : ℕ) (cut : Bor (List
 
   pub part_none : (from ≤ to → to ≤ length (now text) → ⊥) → (now cut ≡ []) × LiesAt cut text 0
   part_none never = places.no_places text cut from to learnt.0 learnt.1 never
+
+-- what a function says of its result, with what is said of last values dropped: there are none
+said :
+    {M : Type 1} {𝓤 : Ura M} (𝓛 : Logic 𝓤) (T : Ended) (c : Clauses 𝓤 T) (κs : Lfts T.signature.lifetimes) (a : Args T.signature κs)
+    (g : (c κs a).ghost) (r : Res T.signature κs) (φ : Type 0)
+    → ((end : AtExit T κs) → ent 𝓤 ((c κs a).ensures g r end) (fact 𝓤 φ)) → ent 𝓤 (ensured 𝓛 T c κs a g r) (fact 𝓤 φ)
+said {𝓤 = 𝓤} 𝓛 T c κs a g r φ clause = ex_e 𝓤 _ (λ ws. via 𝓤 _ (snd∗ 𝓤 (sem 𝓛 (lasts T κs a ws)) _) (clause (at_exit T κs a ws)))
 
 -- `start` and `next`: their contracts say no less than the clauses of `specs/Meaning.antt`
 module _ {M : Type 1} {𝓤 : Ura M} (𝓛 : Logic 𝓤) (mem : Memory → SProp 𝓤) (run : Routine → Fun 𝓤) (κ : Lft) where

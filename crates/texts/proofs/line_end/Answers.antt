@@ -1,10 +1,8 @@
 -- `line_end` goes byte after byte: the place past the line is the same from each place on the way.
-use Prim.Native.Nat.{◌-◌}
-use mathlib.Core.Path.{◌≡◌, refl, sym, ◌∙◌}
+use mathlib.Core.Path.{◌≡◌, sym, ◌∙◌}
 use native.Mathlib.Omega.{arith}
-use borrow.Author.Rules.{rules}
-use lib.ListN.{length, get_or}
-use Rattle.texts.specs.Lines.{line_end, past_line}
+use lib.ListN.{get_or}
+use Rattle.texts.specs.Lines.{line_end}
 use Rattle.texts.proofs.Lines.{walk_done, past_end, past_other}
 use Rattle.texts.proofs.line_end.Goals as goal
 
