@@ -10,14 +10,14 @@ use std::num::{wrapping_add_usize, wrapping_sub_u64};
 pub(crate) const TEXT_ROOM: usize = 65_600;
 
 // What a word reads as: the length of the text at the buffer's front, or no text.
-#[derive(Drop)]
+#[derive(Clone, Copy)]
 pub(crate) enum TextRead {
     Length(usize),
     NoText,
 }
 
 // How far a word was read: the place in it, the length of the text so far, and the text's last byte.
-#[derive(Drop)]
+#[derive(Clone, Copy)]
 struct Reached {
     at: usize,
     length: usize,
@@ -32,7 +32,7 @@ const NOWHERE: Reached = Reached {
 };
 
 // A piece of a word: the byte that it stands for, how many times, and how many bytes of the word it takes.
-#[derive(Drop)]
+#[derive(Clone, Copy)]
 struct Piece {
     byte: u8,
     times: usize,

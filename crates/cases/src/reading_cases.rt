@@ -74,7 +74,7 @@ pub(crate) fn line(text: &[u8], at: usize) {
 }
 
 // How many lines a walk has handed out, and its place.
-#[derive(Drop)]
+#[derive(Clone, Copy)]
 struct Walked {
     count: u64,
     at: usize,

@@ -11,7 +11,7 @@ const NO_NUMBER: u64 = LAST_NUMBER + 1;
 pub(crate) const MOST_NUMBERS: usize = 15;
 
 // The numbers of a case, 0 for each that it does not have, and whether its words could be read as such.
-#[derive(Drop)]
+#[derive(Clone, Copy)]
 pub(crate) struct Numbers {
     pub are_read: bool,
     pub values: [u32; MOST_NUMBERS],

@@ -5,7 +5,7 @@ ghost use Rattle.std.specs.Prelude.{◌≡◌};
 ghost use Rattle.classes.specs.Classes.{comma, class_of};
 
 // What a byte is to a reader. A digit comes with its worth.
-#[derive(Drop)]
+#[derive(Clone, Copy)]
 pub enum Class {
     Digit(u8),
     Mark,

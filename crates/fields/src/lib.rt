@@ -13,7 +13,7 @@ use classes::Class;
 pub const MOST_FIELDS: usize = 5;
 
 // How many fields a line has, 0 where it is no single ended line, and where the first of them end.
-#[derive(Drop)]
+#[derive(Clone, Copy)]
 pub struct Cut {
     pub count: usize,
     pub ends: [usize; MOST_FIELDS],

@@ -10,7 +10,7 @@ ghost use Rattle.hours.specs.Reading.{ended, hour_of, as_hour, ended_plain, plai
 use classes::Class;
 
 // How far the reading of an hour has come: the whole part, the tenth and the hundredth read so far.
-#[derive(Drop)]
+#[derive(Clone, Copy)]
 enum Stage {
     Start,
     Whole(u16),
@@ -21,14 +21,14 @@ enum Stage {
 }
 
 // What a field reads as: the hour in hundredths, or the refusal's number.
-#[derive(Drop)]
+#[derive(Clone, Copy)]
 pub enum HourRead {
     Hour(u32),
     Refused(u32),
 }
 
 // What a field reads as where a plain number is wanted: the number, or the refusal's number.
-#[derive(Drop)]
+#[derive(Clone, Copy)]
 pub enum PlainRead {
     Number(u32),
     Refused(u32),

@@ -16,14 +16,14 @@ use hours::{HourRead, PlainRead};
 pub const LAST_GROWER: u32 = 9_999;
 
 // The first line of a list.
-#[derive(Drop)]
+#[derive(Clone, Copy)]
 pub struct Heading {
     pub chambers: u32,
     pub run: u32,
 }
 
 // An order of a list.
-#[derive(Drop)]
+#[derive(Clone, Copy)]
 pub struct Order {
     pub grower: u32,
     pub ready: u32,
@@ -31,7 +31,7 @@ pub struct Order {
 }
 
 // A load of a plan: its order's line number in the list, its chamber and its start.
-#[derive(Drop)]
+#[derive(Clone, Copy)]
 pub struct Load {
     pub order: u32,
     pub chamber: u32,
@@ -39,28 +39,28 @@ pub struct Load {
 }
 
 // What a first line reads as, or the refusal's number.
-#[derive(Drop)]
+#[derive(Clone, Copy)]
 pub enum HeadingRead {
     Read(Heading),
     Refused(u32),
 }
 
 // What an order line reads as, or the refusal's number.
-#[derive(Drop)]
+#[derive(Clone, Copy)]
 pub enum OrderRead {
     Read(Order),
     Refused(u32),
 }
 
 // What a plan line reads as, or the refusal's number.
-#[derive(Drop)]
+#[derive(Clone, Copy)]
 pub enum LoadRead {
     Read(Load),
     Refused(u32),
 }
 
 // What one field reads as: its number, and the refusal's number or 0.
-#[derive(Drop)]
+#[derive(Clone, Copy)]
 struct FieldRead {
     refusal: u32,
     number: u32,

@@ -20,7 +20,7 @@ use texts::{line_at, line_end};
 const LAST_LINE: u32 = 4_294_967_295;
 
 // How far the reading of a list has come: the place of the next line, its number, and the book.
-#[derive(Drop)]
+#[derive(Clone, Copy)]
 pub struct Progress {
     pub at: usize,
     pub line: u32,
@@ -28,14 +28,14 @@ pub struct Progress {
 }
 
 // A list that was begun, and the refusal's number, 0 where there is none.
-#[derive(Drop)]
+#[derive(Clone, Copy)]
 pub struct Begun {
     pub refusal: u32,
     pub progress: Progress,
 }
 
 // The order that a line reads as, with zeros where it does not read, its answer, and the progress past it.
-#[derive(Drop)]
+#[derive(Clone, Copy)]
 pub struct Step {
     pub order: Order,
     pub answer: Answer,

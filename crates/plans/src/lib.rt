@@ -25,7 +25,7 @@ const ORDERS: usize = MOST_ORDERS as usize;
 const CHAMBERS: usize = MOST_CHAMBERS as usize;
 
 // A fault: its number, whether it stands in the plan or else in the list, its line number, and the place of its line.
-#[derive(Drop)]
+#[derive(Clone, Copy)]
 pub struct Fault {
     pub number: u32,
     pub plan: bool,
@@ -35,21 +35,21 @@ pub struct Fault {
 }
 
 // Right with the number of plan lines, or the first fault.
-#[derive(Drop)]
+#[derive(Clone, Copy)]
 pub enum Judgement {
     Right(u32),
     Wrong(Fault),
 }
 
 // What a plan line comes to up to refusal 14: the refusal's number, 0 where there is none, and the load.
-#[derive(Drop)]
+#[derive(Clone, Copy)]
 struct LoadNoted {
     refusal: u32,
     load: Load,
 }
 
 // The orders of a list: the fault, with number 0 where there is none, and how many orders there are.
-#[derive(Drop)]
+#[derive(Clone, Copy)]
 struct OrdersRead {
     fault: Fault,
     count: usize,

@@ -90,7 +90,7 @@ pub fn write_sum(taken: u32, kept: u32, buffer: &mut [u8]) -> Written
 
 // How far a reply has come: what its list is refused by, 0 where it begins; the
 // progress through the list; whether no line is left to be written.
-#[derive(Drop)]
+#[derive(Clone, Copy)]
 pub struct Reply {
     pub refusal: u32,
     pub progress: Progress,
@@ -98,7 +98,7 @@ pub struct Reply {
 }
 
 // How many bytes at the front of a buffer were filled, and how far the reply has come with them.
-#[derive(Drop)]
+#[derive(Clone, Copy)]
 pub struct Filled {
     pub length: usize,
     pub reply: Reply,

@@ -43,14 +43,14 @@ pub fn line_at<'a>(text: &'a [u8], at: usize) -> &'a [u8]
 }
 
 // A walk through a text: the text, and the place reached. It goes on from whatever place it holds.
-#[derive(Drop)]
+#[derive(Clone, Copy)]
 pub struct Walk<'a> {
     pub text: &'a [u8],
     pub at: usize,
 }
 
 // A line that was handed out, empty where none is left, and the walk moved past it.
-#[derive(Drop)]
+#[derive(Clone, Copy)]
 pub struct Handed<'a> {
     pub line: &'a [u8],
     pub walk: Walk<'a>,

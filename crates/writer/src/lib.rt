@@ -16,7 +16,7 @@ use ground::{LAST_HOUR, check};
 pub const LINE_ROOM: usize = 48;
 
 // What a writing answers: the length of what stands at the buffer's front now, or the refusal's number.
-#[derive(Drop)]
+#[derive(Clone, Copy)]
 pub enum Written {
     Length(usize),
     Refused(u32),
