@@ -32,6 +32,7 @@ fn later(one: u32, other: u32) -> u32
 }
 
 // What one chamber offers: the later of its free hour and ready, where the run ends in time.
+#[tactic(auto, unfolding(crate::specs::BestFit::offer))]
 fn offer(ready: u32, due: u32, run: u32, chamber: u32, free: u32) -> Choice
     ensures { result ≡ offer ready due run chamber free }
 {
