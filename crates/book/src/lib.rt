@@ -32,7 +32,7 @@ pub struct Book {
 }
 
 // What an order is answered.
-#[derive(Drop)]
+#[derive(Clone, Copy)]
 pub enum Answer {
     Yes { chamber: u32, start: u32 },
     No,
@@ -51,14 +51,14 @@ fn yes_numbers(answer: Answer) -> [u32; 2]
 }
 
 // An answer and the next book.
-#[derive(Drop)]
+#[derive(Clone, Copy)]
 pub struct Taken {
     pub answer: Answer,
     pub book: Book,
 }
 
 // A book that was opened, and the refusal's number, 0 where there is none.
-#[derive(Drop)]
+#[derive(Clone, Copy)]
 pub struct Opened {
     pub refusal: u32,
     pub book: Book,

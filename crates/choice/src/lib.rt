@@ -7,7 +7,7 @@ ghost use Rattle.choice.specs.BestFit.{offer, better, best_fit};
 ghost use Rattle.choice.specs.Steps.{numbers_in};
 
 // The chamber chosen and the start there, or nothing where none fits.
-#[derive(Drop)]
+#[derive(Clone, Copy)]
 pub enum Choice {
     Nothing,
     Chamber { chamber: u32, start: u32 },
