@@ -29,7 +29,7 @@ use Rattle.plans.specs.Steps.{orders_from, load_refusal, Loaded}
 use Rattle.plans.specs.declared.LoadNoted.{LoadNoted}
 use Rattle.plans.proofs.Any.{any_more, any_map, or_true, or_false}
 use Rattle.plans.proofs.Chains.{Chained, chained_none, chained_more, Searched, searched_none, found, searched_found, searched_on}
-use Rattle.plans.proofs.Pigeonhole.{among, OrderLines, few_loads, no_order_lines, order_lines_more}
+use Rattle.plans.proofs.Pigeonhole.{OrderLines, few_loads, no_order_lines, order_lines_more}
 use Rattle.plans.proofs.Going.{through_done, through_on, through_stops}
 use Rattle.plans.proofs.Texts.{orders_counted, orders_hours}
 

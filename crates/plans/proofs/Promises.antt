@@ -135,7 +135,7 @@ pub line_at_fault_single :
     → at_fault.Learnt κs (list, (plan, (fault, tt))) other after → OnePart one other
 line_at_fault_single κs list plan fault after one other p q =
     by_test fault.plan (λ inside. one_part plan one other _ p.0 q.0 (p.1.in_plan inside) (q.1.in_plan inside))
-    (λ outside. one_part list one other _ p.0 q.0 (p.1.in_List outside) (q.1.in_List outside))
+    (λ outside. one_part list one other _ p.0 q.0 (p.1.in_list outside) (q.1.in_list outside))
 
 -- the line at fault, of whatever fault, is the part of the text that it stands in between the fault's places, and lies there; else the
 -- empty front
