@@ -21,7 +21,7 @@ const FREE_HOURS: usize = ground::MOST_CHAMBERS as usize;
 const LAST_FREE_HOUR: u32 = ground::LAST_HOUR;
 
 // What the book holds.
-#[derive(Drop)]
+#[derive(Clone, Copy)]
 pub struct Book {
     pub chambers: u32,
     pub run: u32,
@@ -32,7 +32,7 @@ pub struct Book {
 }
 
 // What an order is answered.
-#[derive(Drop)]
+#[derive(Clone, Copy)]
 pub enum Answer {
     Yes { chamber: u32, start: u32 },
     No,
@@ -51,20 +51,21 @@ fn yes_numbers(answer: Answer) -> [u32; 2]
 }
 
 // An answer and the next book.
-#[derive(Drop)]
+#[derive(Clone, Copy)]
 pub struct Taken {
     pub answer: Answer,
     pub book: Book,
 }
 
 // A book that was opened, and the refusal's number, 0 where there is none.
-#[derive(Drop)]
+#[derive(Clone, Copy)]
 pub struct Opened {
     pub refusal: u32,
     pub book: Book,
 }
 
 // Whether no hour from a place on is above a limit.
+#[tactic(auto, using(crate::proofs::Soundness::limit_holds, crate::proofs::Soundness::limit_broken, crate::proofs::Soundness::limit_end))]
 fn all_up_to(limit: u32, hours: &[u32], from: usize) -> bool
     ensures { result ≡ all_up_to limit (drop from hours.now) }
 {
@@ -94,6 +95,7 @@ impl Book {
     }
 
     // A fresh book, or refusal 4 and a book with every field 0.
+    #[tactic(auto, unfolding(crate::specs::Soundness::opened))]
     pub fn open(chambers: u32, run: u32) -> Opened
         ensures { result ≡ opened chambers run }
     {
@@ -122,6 +124,7 @@ impl Book {
     }
 
     // An order with these hours: its answer, and the next book.
+    #[tactic(auto, using(crate::proofs::Deciding::refused_order, crate::proofs::Deciding::passed_order, crate::proofs::Deciding::settled_order))]
     pub fn take(self, ready: u32, due: u32) -> Taken
         ensures { Answered self ready (decided self ready due) result }
     {
@@ -219,6 +222,7 @@ fn hours_are_sound(book: Book) -> bool
 }
 
 // Whether a book is sound.
+#[tactic(auto, unfolding(crate::specs::Soundness::is_sound, crate::specs::Soundness::soundness, crate::specs::Soundness::all_met))]
 fn is_sound(book: Book) -> bool
     ensures { result ≡ is_sound book }
 {
@@ -229,6 +233,7 @@ fn is_sound(book: Book) -> bool
 }
 
 // The refusal of an order, 0 where there is none.
+#[tactic(auto, using(ground::proofs::Refusal::number_of_check), unfolding(crate::specs::Taking::decided))]
 fn refusal_of(book: Book, ready: u32, due: u32) -> u32
     ensures { result ≡ number_of (decided book ready due) }
 {

@@ -10,7 +10,7 @@ use Rattle.choice.specs.declared.Choice.{Choice}
 use Rattle.choice.specs.declared.Choice.TheVariants.{Nothing, Chamber}
 use Rattle.bound.specs.Plans.{InTurn, KeepsTo}
 use Rattle.bound.specs.Keeping.{choice_of, free_after}
-use Rattle.bound.proofs.Weights.{step, pre}
+use Rattle.bound.proofs.Steps.{step, pre}
 use Rattle.bound.proofs.Counting.{above, window, above_most, unfit_above, window_most}
 use Rattle.bound.proofs.OneOrder.{Counted, counted, above_kept}
 

@@ -1,4 +1,5 @@
 -- The laws of this room, by what they are about; Promises has what they come to.
+pub mod Steps
 pub mod Weights
 pub mod Counting
 pub mod OneOrder

@@ -6,7 +6,8 @@ use lib.ListN.{length, replicate, length-replicate}
 use native.Mathlib.Omega.{arith}
 use Rattle.book.specs.History.{OrderHours}
 use Rattle.bound.specs.Plans.{Lengths, Keeps, InTurn, PlanLoad, GoodPlan}
-use Rattle.bound.proofs.Weights.{pre, weight_pre, first_weight, last_weight}
+use Rattle.bound.proofs.Steps.{pre}
+use Rattle.bound.proofs.Weights.{weight_pre, first_weight, last_weight}
 use Rattle.bound.proofs.Counting.{none_above}
 use Rattle.bound.proofs.Windows.{sum}
 use Rattle.bound.proofs.Gains.{lower}
@@ -46,20 +47,8 @@ limit m A lengths orders loads turn good keeps =
     in
     rw factor (omega arith)
 
--- two chambers: at least 5 of 9
-pub limit_of_two :
-    (A : ℕ) (lengths : Lengths) (orders : List OrderHours) (loads : List PlanLoad) → InTurn 0 orders → GoodPlan 2 lengths orders loads
-    → Keeps lengths (replicate 2 0) orders A → 5 * length loads ≤ 9 * A
-limit_of_two = limit 2
-
 -- the first orders of a list in turn are in turn
-front_in_turn : (clock : ℕ) (front rest : List OrderHours) → InTurn clock (front ++ rest) → InTurn clock front
+pub front_in_turn : (clock : ℕ) (front rest : List OrderHours) → InTurn clock (front ++ rest) → InTurn clock front
 unfolding InTurn
 front_in_turn clock [] rest turn = tt
 front_in_turn clock (order ∷ front) rest turn = (turn.0, front_in_turn order.ready front rest turn.1)
-
--- the limit holds after every order, not only at the end: for the first orders of a list, and every good plan for them
-pub limit_at_front :
-    (m A : ℕ) (lengths : Lengths) (front rest : List OrderHours) (loads : List PlanLoad) → InTurn 0 (front ++ rest)
-    → GoodPlan m lengths front loads → Keeps lengths (replicate m 0) front A → ((m + 1) ^ m - m ^ m) * length loads ≤ (m + 1) ^ m * A
-limit_at_front m A lengths front rest loads turn = limit m A lengths front loads (front_in_turn 0 front rest turn)

@@ -28,13 +28,13 @@ limit = bound.limit
 pub limit_of_two :
     (A : ℕ) (lengths : Lengths) (orders : List OrderHours) (loads : List PlanLoad) → InTurn 0 orders → GoodPlan 2 lengths orders loads
     → Keeps lengths (replicate 2 0) orders A → 5 * length loads ≤ 9 * A
-limit_of_two = bound.limit_of_two
+limit_of_two = bound.limit 2
 
 -- it holds after every order, not only at the end: for the first orders of a list, and every good plan for them
 pub limit_at_front :
     (m A : ℕ) (lengths : Lengths) (front rest : List OrderHours) (loads : List PlanLoad) → InTurn 0 (front ++ rest)
     → GoodPlan m lengths front loads → Keeps lengths (replicate m 0) front A → ((m + 1) ^ m - m ^ m) * length loads ≤ (m + 1) ^ m * A
-limit_at_front = bound.limit_at_front
+limit_at_front m A lengths front rest loads turn = bound.limit m A lengths front loads (bound.front_in_turn 0 front rest turn)
 
 -- it is reached with one chamber: of two orders in turn the rule keeps one, and a good plan has both
 pub reached_in_turn : InTurn 0 two_orders

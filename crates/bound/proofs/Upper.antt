@@ -14,7 +14,8 @@ use Rattle.choice.specs.declared.Choice.{Choice}
 use Rattle.choice.specs.declared.Choice.TheVariants.{Nothing, Chamber}
 use Rattle.bound.specs.Plans.{Lengths, PlanLoad, KeepsTo, GoodLoad, SeparateFrom, GoodPlan}
 use Rattle.bound.specs.Keeping.{choice_of, free_after, kept_by, kept_of}
-use Rattle.bound.proofs.Weights.{weight, step, pre, steps_grow, pre_grows, steps_and_rest}
+use Rattle.bound.proofs.Steps.{weight, step, pre}
+use Rattle.bound.proofs.Weights.{steps_grow, pre_grows, steps_and_rest}
 use Rattle.bound.proofs.Counting.{above, unfit, window, unfit_above, window_from}
 use Rattle.bound.proofs.OneOrder.{CountedYes, Counted, counted}
 use Rattle.bound.proofs.Windows.{sum, in_window, few_in_window}

@@ -1,22 +1,9 @@
--- The weights of the double count, for a number of chambers: what each chamber more
--- that is taken adds, and what they come to. Assumes nothing.
+-- Laws of the weights: how they grow, and what they come to. Assumes nothing.
 use Prim.Native.Nat.{ℕ, zero, suc, ◌+◌, ◌-◌, ◌*◌, ◌^◌, ◌≤◌, ◌<◌}
 use mathlib.Core.Path.{◌≡◌}
 use native.Mathlib.Nat.{pow-zero, pow-suc}
 use native.Mathlib.Omega.{arith}
-
--- the weight of so many chambers that are taken
-unfoldable pub weight : ℕ → ℕ → ℕ
-weight m k = (m + 1) ^ k * m ^ (m - k)
-
--- what one chamber more adds to it
-unfoldable pub step : ℕ → ℕ → ℕ
-step m k = (m + 1) ^ k * m ^ (m - suc k)
-
--- what so many chambers add together
-unfoldable pub pre : ℕ → ℕ → ℕ
-pre m zero = 0
-pre m (suc k) = pre m k + step m k
+use Rattle.bound.proofs.Steps.{weight, step, pre}
 
 -- a weight is m steps
 times_step : (m k : ℕ) → k < m → m * step m k ≡ weight m k

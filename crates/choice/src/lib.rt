@@ -7,7 +7,7 @@ ghost use Rattle.choice.specs.BestFit.{offer, better, best_fit};
 ghost use Rattle.choice.specs.Steps.{numbers_in};
 
 // The chamber chosen and the start there, or nothing where none fits.
-#[derive(Drop)]
+#[derive(Clone, Copy)]
 pub enum Choice {
     Nothing,
     Chamber { chamber: u32, start: u32 },
@@ -32,6 +32,7 @@ fn later(one: u32, other: u32) -> u32
 }
 
 // What one chamber offers: the later of its free hour and ready, where the run ends in time.
+#[tactic(auto, unfolding(crate::specs::BestFit::offer))]
 fn offer(ready: u32, due: u32, run: u32, chamber: u32, free: u32) -> Choice
     ensures { result ≡ offer ready due run chamber free }
 {

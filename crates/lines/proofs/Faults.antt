@@ -40,6 +40,7 @@ fields_fault :
     {readers : List (List ℕ → Read ℕ)} {kinds : List Kind} → AllGo readers kinds → {texts : List (List ℕ)} {number : ℕ}
     → FirstFieldFault kinds texts number → read_all readers texts ≡ wrong number
 unfolding read_all
+fields_fault none_go {texts = texts} {number = number} fault = elim fault [ ]
 fields_fault (more_go goes all) {number = number} (here fault) = rw (goes.faults _ number fault)
 fields_fault (more_go goes all) (later value reads fault) = rw (goes.reads _ value reads, fields_fault all fault)
 

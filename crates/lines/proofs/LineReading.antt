@@ -1,14 +1,14 @@
 -- Laws of reading a line by its cut: what its fields come to, read one by one from the left. Assumes nothing.
 use Prim.Native.Nat.{ℕ, suc, ◌+◌, ◌≤◌, ◌<◌}
 use mathlib.Core.Path.{◌≡◌, refl, sym, ap, ◌∙◌}
-use mathlib.Core.Bool.{Bool, true, false, cond, not}
+use mathlib.Core.Bool.{Bool, true, false, cond}
 use mathlib.Core.List.{List, [], ◌∷◌, map}
 use mathlib.Core.Logic.{⊎_elim}
 use lib.ListN.{length, get_or, drop}
 use lib.Seq.{drop-cons}
 use lib.Dec.{eqb}
 use native.Mathlib.Omega.{arith}
-use borrow.Author.Tests.{eqb-true, ne_eqb, eqb-false, not-true, not-false}
+use borrow.Author.Tests.{eqb-true, ne_eqb, eqb-false}
 use Rattle.ground.specs.Refusal.{Read, wrong, right}
 use Rattle.ground.specs.Range.{within}
 use Rattle.ground.proofs.Tests.{by_test, never_both}
@@ -83,7 +83,7 @@ module _
     counted = ap (λ (found : Cut). found.count) was_cut
 
     -- with too few fields or too many it is refused by 1
-    pub line_misshapen : not shaped ≡ true → line_of (length readers) readers line ≡ wrong 1
+    pub line_misshapen : shaped ≡ false → line_of (length readers) readers line ≡ wrong 1
     unfolding line_of
     line_misshapen failed =
         ⊎_elim
@@ -91,16 +91,16 @@ module _
         let has = (has_fields (length readers) (length readers) line).0 met in
         let count = (count_exactly line has.0 (omega (arith, has.2))).1 has.1 in
         let inside = within_from (length readers) (length readers) cut.count (omega (arith, has.2, counted)) (omega (arith, has.3, counted)) in
-        absurd (never_both inside (sym tested ∙ not-true shaped failed)))
+        absurd (never_both inside (sym tested ∙ failed)))
         (λ unmet. rw unmet) (shape_ways (length readers) (length readers) line)
 
     -- else it comes to what its fields do
     pub line_read :
-        (reads : List FieldRead) (refusal : ℕ) → length readers ≤ most_fields → not shaped ≡ false → WereRead (field_at line cut) readers 0 reads
+        (reads : List FieldRead) (refusal : ℕ) → length readers ≤ most_fields → shaped ≡ true → WereRead (field_at line cut) readers 0 reads
         → refusal ≡ refusal_from 0 reads → line_of (length readers) readers line ≡ outcome refusal (numbers_of reads)
     unfolding line_of
     line_read reads refusal room passed read refused =
-        let inside = sym tested ∙ not-false shaped passed in
+        let inside = sym tested ∙ passed in
         let low = within_low (length readers) (length readers) cut.count inside in
         let high = within_high (length readers) (length readers) cut.count inside in
         let has = (count_exactly line (length readers) some).0 (omega (arith, counted)) in
@@ -112,7 +112,7 @@ module _
         (omega arith))
 
     abbrev pub line_comes :
-        (reads : List FieldRead) (refusal : ℕ) → length readers ≤ most_fields → not shaped ≡ false → WereRead (field_at line cut) readers 0 reads
+        (reads : List FieldRead) (refusal : ℕ) → length readers ≤ most_fields → shaped ≡ true → WereRead (field_at line cut) readers 0 reads
         → refusal ≡ refusal_from 0 reads → Comes readers
     line_comes reads refusal room passed read refused =
         record { line = line; refusal = refusal; numbers = numbers_of reads; comes = line_read reads refusal room passed read refused }
