@@ -1,3 +1,4 @@
+-- `copy` copies byte after byte: the bytes passed stand in the buffer as in the text.
 use Prim.Native.Nat.{◌-◌, ◌≤◌}
 use mathlib.Core.Path.{◌≡◌}
 use lib.ListN.{length, take}
