@@ -4,45 +4,88 @@
 // to its end is unread.
 #![tactic(auto)]
 
+ghost use Rattle.std.specs.Prelude.{◌≤◌, length, IfSome};
+
 use ground::LONGEST_TEXT;
 use judgements::write_checked;
+use std::env::Env;
+use std::fs::{self, Files};
+use std::io::Read;
 use writer::{LINE_ROOM, text_in};
 
 // Room for a text, and for one byte more, which tells that it is too long.
 const ROOM: usize = LONGEST_TEXT + 1;
 
-fn main() {
+fn main(rt: HostRuntime) {
     let mut list = [0u8; ROOM];
-    let list_file = open_named(1);
-    let list_length = io::read_full(list_file, &mut list);
-    if !was_read(list_file) {
-        print(b"unread\torders\n");
-        return;
-    }
+    let list_length = match read_named(&rt, 1, &mut list) {
+        Some(length) => length,
+        None => {
+            print(b"unread\torders\n");
+            return;
+        }
+    };
     let mut plan = [0u8; ROOM];
-    let plan_file = open_named(2);
-    let plan_length = io::read_full(plan_file, &mut plan);
-    if !was_read(plan_file) {
-        print(b"unread\tplan\n");
-        return;
-    }
+    let plan_length = match read_named(&rt, 2, &mut plan) {
+        Some(length) => length,
+        None => {
+            print(b"unread\tplan\n");
+            return;
+        }
+    };
     print_judgement(&list[..list_length], &plan[..plan_length]);
 }
 
-// The file that an argument names, open for reading; -1 where it is not given or cannot be opened.
-fn open_named(place: usize) -> i32 {
-    let mut name = io::buffer();
-    let length = os::arg(place, &mut name);
-    if os::errno() != 0 {
-        return -1;
+// Reads the file that an argument names into a text, and gives how many bytes it has; none where the file is unread.
+fn read_named<R: Env + Files>(rt: &R, place: usize, text: &mut [u8]) -> Option<usize>
+    ensures { IfSome result (λ read. read ≤ length text.new) }
+{
+    let mut file = open_named(rt, place)?;
+    let length = read_full(&mut file, text);
+    if was_read(&mut file) {
+        Some(length)
+    } else {
+        None
     }
-    os::open_read(&name[..length])
 }
 
-// Whether a file could be read as far as it was: another read of it does not fail, and on none it does.
-fn was_read(file: i32) -> bool {
+// The file that an argument names, open for reading; none where it is not given or cannot be opened.
+fn open_named<R: Env + Files>(rt: &R, place: usize) -> Option<R::File> {
+    let mut name = io::buffer();
+    let length = rt.arg(place, &mut name).ok()?;
+    let path = str::from_utf8(&name[..length]).ok()?;
+    fs::open(rt, path).ok()
+}
+
+// Reads until a text is full, the file ends or a read fails, and gives how many bytes it put at the text's front.
+fn read_full<F: Read>(file: &mut F, text: &mut [u8]) -> usize
+    ensures { result ≤ length text.new }
+{
+    let mut length = 0;
+    while length < text.len() {
+        let more = read_some(file, &mut text[length..]);
+        if more == 0 {
+            break;
+        }
+        length += more;
+    }
+    length
+}
+
+// How many bytes a read put at a text's front; 0 where it failed.
+fn read_some<F: Read>(file: &mut F, text: &mut [u8]) -> usize
+    ensures { result ≤ length text.new }
+{
+    match file.read(text) {
+        Ok(more) => more,
+        Err(_) => 0,
+    }
+}
+
+// Whether a file could be read as far as it was: another read of it does not fail.
+fn was_read<F: Read>(file: &mut F) -> bool {
     let mut byte = [0u8; 1];
-    0 <= libc::read(file, &mut byte)
+    file.read(&mut byte).is_ok()
 }
 
 // The judgement of a plan for a list.
