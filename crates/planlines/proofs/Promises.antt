@@ -52,7 +52,7 @@ pub plan_line_writes :
     → write_plan_line.Learnt κs (order, (chamber, (start, (buffer, tt)))) answer after
     → Writes (InRange order chamber start) (plan_text order chamber start) buffer.now answer after.1.1.1.0.now
 plan_line_writes κs order chamber start buffer answer after learnt =
-    answers.writes (plan.in_range order chamber start) (InRange order chamber start) (plan.in_range order chamber start) (plan_text order chamber start)
+    answers.writes (plan.in_range order chamber start) (InRange order chamber start) (plan.in_range_lem order chamber start) (plan_text order chamber start)
     buffer.now (plan_written order chamber start) (plan.tested order chamber start) answer after.1.1.1.0.now learnt.0 learnt.1
 
 -- 2e: what was written reads back as its three numbers, with any list's count that admits the chamber
