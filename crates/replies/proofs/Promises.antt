@@ -9,7 +9,8 @@ use lib.ListN.{length, take, drop, get_or, length-append}
 use native.Mathlib.Omega.{arith}
 use borrow.Author.Tests.{leb-true, le-leb}
 use contract.Lifetimes.{Lfts}
-use denote.Ref.{Bor}
+use denote.Bor.{Bor}
+use denote.MutBor.{MutBor}
 use Rattle.ground.specs.Refusal.{Read, wrong, right}
 use Rattle.ground.specs.Outcome.{Single}
 use Rattle.ground.proofs.Outcome.{single_value}
@@ -57,7 +58,7 @@ use Rattle.replies.proofs.fill.Reads as fill
 
 -- the fields of a reply line are the line number, the word and the numbers, each spelled
 pub reply_line_says : (line : ℕ) (answer : Answer) → (StartsPastLast answer → ⊥) → ReplyTo line answer (reply_line line answer)
-reply_line_says line answer never = fields.reply_fields line answer (replying.in_range answer never)
+reply_line_says line answer never = fields.reply_fields line answer (replying.in_range_lem answer never)
 
 -- and so are those of the sum
 pub sum_line_says : (taken kept : ℕ) → SumOf taken kept (sum_line taken kept)
@@ -140,7 +141,7 @@ pub answer_writes :
     (κs : Lfts 1) (line : ℕ) (given : Answer) (buffer : _) (answer : Written) (after : _) → write_answer.Learnt κs (line, (given, (buffer, tt))) answer after
     → Writes (StartsPastLast given → ⊥) (reply_line line given) buffer.now answer after.1.1.0.now
 answer_writes κs line given buffer answer after learnt =
-    answers.writes (start_in_range given) (StartsPastLast given → ⊥) (replying.not_past given, replying.in_range given) (reply_line line given) buffer.now
+    answers.writes (start_in_range given) (StartsPastLast given → ⊥) (replying.not_past given, replying.in_range_lem given) (reply_line line given) buffer.now
     (reply_written line given) (replying.tested line given) answer after.1.1.0.now learnt.0 learnt.1.0
 
 -- the same of the sum, which is never refused by 4
@@ -155,7 +156,7 @@ sum_writes κs taken kept buffer answer after learnt =
 pub answer_fits :
     (κs : Lfts 1) (line : ℕ) (given : Answer) (buffer : _) (answer : Written) (after : _) → write_answer.Learnt κs (line, (given, (buffer, tt))) answer after
     → (StartsPastLast given → ⊥) → length (reply_line line given) ≤ 48
-answer_fits κs line given buffer answer after learnt never = rw (replying.tested line given, replying.in_range given never) at learnt.1.1
+answer_fits κs line given buffer answer after learnt never = rw (replying.tested line given, replying.in_range_lem given never) at learnt.1.1
 
 pub sum_fits :
     (κs : Lfts 1) (taken kept : ℕ) (buffer : _) (answer : Written) (after : _) → write_sum.Learnt κs (taken, (kept, (buffer, tt))) answer after
@@ -167,7 +168,7 @@ module _ (text : Bor (List ℕ)) where
   -- what `fill` admits, wherever the buffer that it is lent lies
   abbrev Admits : Reply → List ℕ → Filled → List ℕ → Type 0
   Admits reply buffer filled held =
-      (κs : Lfts 2) × (lent : Bor (List ℕ)) × (after : _) × fill.Learnt κs (text, (reply, (lent, tt))) filled after × (lent.now ≡ buffer)
+      (κs : Lfts 2) × (lent : MutBor (List ℕ)) × (after : _) × fill.Learnt κs (text, (reply, (lent, tt))) filled after × (lent.now ≡ buffer)
       × (after.1.1.0.now ≡ held)
 
   said : (reply : Reply) (buffer : List ℕ) (filled : Filled) (held : List ℕ) → Admits reply buffer filled held → Fills text.now reply buffer filled held
@@ -226,7 +227,7 @@ module _ (κs : Lfts 1) (text : Bor (List ℕ)) (reply : Reply) (after : _) (beg
   begin_with_book book opened = rw (begun, opened) (refl, omega (arith, past_is text.now 0), refl, refl)
 
 -- `fill`, from whatever state with whatever buffer: what is filled lies in the buffer, and every other byte stays
-module _ (κs : Lfts 2) (text : Bor (List ℕ)) (reply : Reply) (buffer : Bor (List ℕ)) (filled : Filled) (after : _)
+module _ (κs : Lfts 2) (text : Bor (List ℕ)) (reply : Reply) (buffer : MutBor (List ℕ)) (filled : Filled) (after : _)
     (learnt : fill.Learnt κs (text, (reply, (buffer, tt))) filled after) where
   pub fill_stays :
       (filled.length ≤ length buffer.now) × (drop filled.length after.1.1.0.now ≡ drop filled.length buffer.now)
