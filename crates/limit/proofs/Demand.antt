@@ -9,7 +9,7 @@ use lib.ListN.{length, take}
 use native.Mathlib.Numerals.{add-one}
 use native.Mathlib.Omega.{arith}
 use contract.Lifetimes.{Lfts}
-use denote.Ref.{Bor}
+use denote.MutBor.{MutBor}
 use Rattle.ground.specs.Refusal.{right}
 use Rattle.ground.specs.Limits.{longest_text, first_order_line}
 use Rattle.ground.specs.Text.{bytes}
@@ -88,9 +88,9 @@ yeses_fit = yes.plan_fits
 
 -- a text that `write_plan_line` wrote of three numbers, to some buffer
 pub record Wrote (κs : Lfts 1) (order chamber start : ℕ) (text : List ℕ) : Type 0 where
-  pub buffer : Bor (List ℕ)
+  pub buffer : MutBor (List ℕ)
   pub count : ℕ
-  pub after : ℕ × (ℕ × (ℕ × (Bor (List ℕ) × Unit {0})))
+  pub after : ℕ × (ℕ × (ℕ × (MutBor (List ℕ) × Unit {0})))
   pub learnt : write_plan_line.Learnt κs (order, (chamber, (start, (buffer, tt)))) (Length count) after
   pub front : take count after.1.1.1.0.now ≡ text
 
@@ -102,7 +102,7 @@ wrote_plan_line {κs} order chamber start text wrote =
 
 -- with numbers in range it can be, to whatever buffer of 14 bytes or more
 can_write :
-    {κs : Lfts 1} (order chamber start : ℕ) → InRange order chamber start → (buffer : Bor (List ℕ)) → 14 ≤ length buffer.now
+    {κs : Lfts 1} (order chamber start : ℕ) → InRange order chamber start → (buffer : MutBor (List ℕ)) → 14 ≤ length buffer.now
     → Wrote κs order chamber start (plan_text order chamber start)
 can_write order chamber start range buffer room =
     let text : List ℕ = plan_text order chamber start in
@@ -123,7 +123,7 @@ module _ (list : List ℕ) (heading : Heading) (orders : List Order) (clean : Cl
   -- 3a over what is written: each yes is accepted, with the number of its order's line, to whatever buffer of 14 bytes or more
   pub yes_accepted :
       (front : List Answer) (chamber start : ℕ) (rest : List Answer) → answers ≡ front ++ Yes chamber start ∷ rest
-      → (buffer : Bor (List ℕ)) (answer : Written) (after : _)
+      → (buffer : MutBor (List ℕ)) (answer : Written) (after : _)
       → write_plan_line.Learnt κs (2 + length front, (chamber, (start, (buffer, tt)))) answer after → 14 ≤ length buffer.now
       → (count : ℕ) × (answer ≡ Length count)
   yes_accepted front chamber start rest among buffer answer after learnt room =
@@ -133,7 +133,7 @@ module _ (list : List ℕ) (heading : Heading) (orders : List Order) (clean : Cl
       (length text, ((plan_line_writes κs (2 + length front) chamber start buffer answer after learnt).written (length text)).1 (range, fits, refl))
 
   -- so the yeses can all be written
-  pub yeses_can_be_written : (buffer : Bor (List ℕ)) → 14 ≤ length buffer.now → YesesWritten (Wrote κs) 2 answers (yes_plan 2 answers)
+  pub yeses_can_be_written : (buffer : MutBor (List ℕ)) → 14 ≤ length buffer.now → YesesWritten (Wrote κs) 2 answers (yes_plan 2 answers)
   yeses_can_be_written buffer room =
       printed.written_each (Wrote κs) 2 answers
       (λ front chamber start rest among.
