@@ -41,7 +41,7 @@ use Rattle.limit.specs.Example.{paper_list, paper_plan}
 use Rattle.limit.specs.Yeses.{yes_plan}
 use Rattle.limit.specs.Meaning.{SaysBad, EndsInSum, YesesWritten, YesesPrinted}
 use Rattle.limit.proofs.Bytes.{limit_on_bytes}
-use Rattle.limit.proofs.YesText.{line_short}
+use Rattle.limit.proofs.LineRoom.{line_short}
 use Rattle.limit.proofs.YesPlan as yes
 use Rattle.limit.proofs.Printed as printed
 use Rattle.limit.proofs.Reached.{paper_clean, paper_orders, paper_yeses, paper_right}

@@ -5,6 +5,8 @@ pub mod Turn
 pub mod Loads
 pub mod Bytes
 pub mod YesLoads
+pub mod YesesGiven
+pub mod LineRoom
 pub mod YesText
 pub mod YesPlan
 pub mod Reached

@@ -46,7 +46,7 @@ use Rattle.limit.specs.Yeses.{yes_plan}
 use Rattle.limit.specs.Meaning.{SaysBad, EndsInSum, YesesWritten, none_left, with_yes, with_no, with_refused, YesesPrinted, the_sum, yes_line, no_line}
 use Rattle.limit.proofs.Bytes.{limit_on_bytes}
 use Rattle.limit.proofs.YesLoads.{yes_loads}
-use Rattle.limit.proofs.YesText.{line_short}
+use Rattle.limit.proofs.LineRoom.{line_short}
 use Rattle.limit.proofs.YesPlan as yes
 
 -- the last of some is one

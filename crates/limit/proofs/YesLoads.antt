@@ -1,7 +1,7 @@
 -- The loads of the yeses: each keeps to its order and to the free hour of its chamber, and each two are apart. Assumes nothing.
 use Prim.Native.Nat.{ℕ, suc, ◌+◌, ◌-◌, ◌≤◌, ◌<◌}
 use mathlib.Core.Path.{◌≡◌, refl, sym, ap}
-use mathlib.Core.List.{List, [], ◌∷◌, ◌++◌, map, cons≢nil, head-eq_of_cons-eq, tail-eq_of_cons-eq}
+use mathlib.Core.List.{List, [], ◌∷◌, ◌++◌}
 use lib.ListN.{length, get_or}
 use lib.Seq.{get_or-set_same, get_or-set_other}
 use lib.Dec.{eqb}
@@ -10,21 +10,18 @@ use borrow.Author.Tests.{eqb-true, eqb-false}
 use Rattle.ground.specs.Refusal.{Read, wrong, right}
 use Rattle.ground.specs.Limits.{last_hour}
 use Rattle.ground.proofs.Tests.{by_test}
-use Rattle.lines.specs.Reading.{order_of}
 use Rattle.lines.specs.declared.Order.{Order}
 use Rattle.lines.specs.declared.Load.{Load}
-use Rattle.book.specs.Taking.{hold, decided, next_book, answer_of}
+use Rattle.book.specs.Taking.{hold, decided, next_book}
 use Rattle.book.specs.Settling.{Sized}
 use Rattle.book.specs.declared.Book.{Book}
 use Rattle.choice.specs.declared.Choice.{Choice}
 use Rattle.choice.specs.declared.Choice.TheVariants.{Nothing, Chamber}
 use Rattle.book.specs.declared.Answer.{Answer}
 use Rattle.book.specs.declared.Answer.TheVariants.{Yes, No, Refused}
-use Rattle.book.proofs.Steps.{next_sized, yes_exactly}
-use Rattle.orders.specs.Answers.{answers_from}
+use Rattle.book.proofs.Steps.{yes_exactly}
 use Rattle.orders.specs.Meaning.{Each, EachTwo}
 use Rattle.plans.specs.Meaning.{Apart}
-use Rattle.orders.proofs.Each.{each_none, each_before, each_so, two_none, two_before}
 
 -- the load of a yes, with the number of its order's line; a no and a refusal have none
 abbrev pub yes_load : ℕ → Answer → List Load
@@ -60,11 +57,11 @@ pub record GivenLoads (line : ℕ) (book : Book) (orders : List Order) (loads : 
 -- An order that is given to a book, and the orders behind it.
 module _ (line : ℕ) (book : Book) (sized : Sized book) (order : Order) (orders : List Order) where
   -- it is decided so
-  abbrev Decided : Read Choice → Type 0
+  abbrev pub Decided : Read Choice → Type 0
   Decided choice = decided book order.ready order.due ≡ choice
 
   -- and then the next book is this
-  abbrev next : Read Choice → Book
+  abbrev pub next : Read Choice → Book
   next choice = next_book book order.ready choice
 
   -- a yes is to a chamber that has a free hour
@@ -91,7 +88,7 @@ module _ (line : ℕ) (book : Book) (sized : Sized book) (order : Order) (orders
   numbers_stay (right (Chamber chamber start)) = (refl, refl)
 
   -- so a load that is given from the next book on is given from this one on
-  given_later : (choice : Read Choice) → Decided choice → (load : Load) → Given (suc line) (next choice) orders load → Given line book (order ∷ orders) load
+  pub given_later : (choice : Read Choice) → Decided choice → (load : Load) → Given (suc line) (next choice) orders load → Given line book (order ∷ orders) load
   given_later choice decision load given =
       let stay = numbers_stay choice in
       record {
@@ -108,7 +105,7 @@ module _ (line : ℕ) (book : Book) (sized : Sized book) (order : Order) (orders
       }
 
   -- and so is the load of its own yes
-  given_now :
+  pub given_now :
       (chamber start : ℕ) → Decided (right (Chamber chamber start))
       → Given line book (order ∷ orders) (record { order = line; chamber = chamber; start = start })
   given_now chamber start decision =
@@ -129,7 +126,7 @@ module _ (line : ℕ) (book : Book) (sized : Sized book) (order : Order) (orders
 
   -- a later load is apart from that of its yes: its order stands further down, and
   -- their chamber is free only when the yes no longer holds it
-  apart_later :
+  pub apart_later :
       (chamber start : ℕ) → Decided (right (Chamber chamber start)) → (load : Load) → Given (suc line) (next (right (Chamber chamber start))) orders load
       → Apart (hold book) (record { order = line; chamber = chamber; start = start }) load
   apart_later chamber start decision load given =
@@ -140,40 +137,3 @@ module _ (line : ℕ) (book : Book) (sized : Sized book) (order : Order) (orders
             rw (sym overlap.together, get_or-set_same book.free (chamber - 1) (start + hold book) 0 (housed chamber start decision)) at given.freed in
             omega (arith, freed, overlap.other_first);
       }
-
-  -- so the loads from the next book on, with that of its yes before them, are such loads from this book on
-  loads_more :
-      {loads : List Load} (choice : Read Choice) → Decided choice → GivenLoads (suc line) (next choice) orders loads
-      → GivenLoads line book (order ∷ orders) (yes_load line (answer_of choice) ++ loads)
-  loads_more (wrong number) decision later =
-      record { few = omega (arith, later.few); each = each_so (given_later (wrong number) decision) later.each; apart = later.apart }
-  loads_more (right Nothing) decision later =
-      record { few = omega (arith, later.few); each = each_so (given_later (right Nothing) decision) later.each; apart = later.apart }
-  loads_more (right (Chamber chamber start)) decision later =
-      record {
-        few = omega (arith, later.few);
-        each = each_before (given_now chamber start decision) (each_so (given_later (right (Chamber chamber start)) decision) later.each);
-        apart = two_before (each_so (apart_later chamber start decision) later.each) later.apart;
-      }
-
-  -- these are the loads of the yeses to its line and those behind it
-  line_more :
-      (text : List ℕ) (lines : List (List ℕ)) → order_of text ≡ right order
-      → let after = next (decided book order.ready order.due) in
-      GivenLoads (suc line) after orders (yes_loads (suc line) (answers_from after lines))
-      → GivenLoads line book (order ∷ orders) (yes_loads line (answers_from book (text ∷ lines)))
-  unfolding yes_loads answers_from
-  line_more text lines read later = rw read (loads_more (decided book order.ready order.due) refl later)
-
--- the yeses to lines that read as these orders have such loads
-pub yeses_given :
-    (line : ℕ) (book : Book) → Sized book → (lines : List (List ℕ)) (orders : List Order) → map order_of lines ≡ map right orders
-    → GivenLoads line book orders (yes_loads line (answers_from book lines))
-unfolding yes_loads answers_from
-yeses_given line book sized [] orders read = record { few = omega arith; each = each_none; apart = two_none }
-yeses_given line book sized (text ∷ lines) [] read = absurd (cons≢nil read)
-yeses_given line book sized (text ∷ lines) (order ∷ orders) read =
-    let choice = decided book order.ready order.due in
-    line_more line book sized order orders text lines (head-eq_of_cons-eq read)
-    (yeses_given (suc line) (next_book book order.ready choice) (next_sized book order.ready order.due choice sized) lines orders
-    (tail-eq_of_cons-eq read))

@@ -23,7 +23,8 @@ use Rattle.plans.specs.Judging.{judged}
 use Rattle.plans.specs.Meaning.{InTime, Obeys}
 use Rattle.plans.proofs.Promises.{right_exactly}
 use Rattle.limit.specs.Yeses.{yes_plan}
-use Rattle.limit.proofs.YesLoads.{yes_loads, Given, GivenLoads, yeses_given}
+use Rattle.limit.proofs.YesLoads.{yes_loads, Given, GivenLoads}
+use Rattle.limit.proofs.YesesGiven.{yeses_given}
 use Rattle.limit.proofs.YesText.{load_text, plan_joined, loads_counted_lem, load_lines, Writable, loads_read, loads_short}
 
 -- a load that is given to one of the orders of a list names that order and is in time

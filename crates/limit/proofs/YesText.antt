@@ -1,5 +1,5 @@
 -- The text of the yeses as plan lines: its lines, what they read as, how many they are and how long it is. Assumes nothing.
-use Prim.Native.Nat.{ℕ, suc, ◌*◌, ◌/◌, ◌≤◌}
+use Prim.Native.Nat.{ℕ, suc, ◌*◌, ◌≤◌}
 use mathlib.Core.Path.{◌≡◌, refl, ap, ◌∙◌}
 use mathlib.Core.Bool.{true}
 use mathlib.Core.List.{List, [], ◌∷◌, ◌++◌, map}
@@ -7,14 +7,10 @@ use lib.ListN.{length, length-append}
 use lib.Dec.{eqb}
 use native.Mathlib.Omega.{arith}
 use Rattle.ground.specs.Refusal.{right}
-use Rattle.ground.proofs.Digits.{spelled_most}
 use Rattle.ground.proofs.Tests.{by_test}
-use Rattle.classes.specs.Classes.{comma}
-use Rattle.writer.proofs.Writing.{length_of_text}
 use Rattle.texts.specs.Lines.{line_end, lines_of}
 use Rattle.fields.specs.Fields.{is_ended}
 use Rattle.lines.specs.Reading.{load_of}
-use Rattle.fields.specs.Meaning.{tabbed}
 use Rattle.fields.proofs.Splits.{none_behind}
 use Rattle.planlines.specs.Writing.{plan_text}
 use Rattle.planlines.specs.Meaning.{InRange}
@@ -28,6 +24,7 @@ use Rattle.orders.specs.Meaning.{Each}
 use Rattle.orders.proofs.Each.{each_first, each_rest}
 use Rattle.limit.specs.Yeses.{yes_plan}
 use Rattle.limit.proofs.YesLoads.{yes_loads}
+use Rattle.limit.proofs.LineRoom.{longest_line, line_short}
 
 -- a load as a plan line
 abbrev pub load_text : Load → List ℕ
@@ -78,24 +75,7 @@ loads_read {count} (load ∷ loads) each =
     let later = loads_read loads (each_rest each) in
     λ i. here i ∷ later i
 
--- a plan line's most bytes: an order line of three digits, a chamber of one, an hour of seven bytes, two tabs and the end
-abbrev pub longest_line : ℕ
-longest_line = 14
-
--- no plan line has more
-pub line_short : {order chamber start : ℕ} → InRange order chamber start → length (plan_text order chamber start) ≤ longest_line
-unfolding plan_text tabbed
-line_short {order} {chamber} {start} range =
-    simp length-append
-    (omega (
-      arith,
-      spelled_most 2 order (omega arith),
-      spelled_most 0 chamber (omega arith),
-      length_of_text comma start,
-      spelled_most 3 (start / 100) (omega arith),
-    ))
-
--- nor have several of them more for each
+-- several plan lines have no more bytes than the longest one for each
 pub loads_short : {count : ℕ} (loads : List Load) → Each (Writable count) loads → length (joined (map load_text loads)) ≤ longest_line * length loads
 unfolding joined
 loads_short [] each = omega arith

@@ -32,6 +32,8 @@ use Rattle.texts.proofs.part.Reads as part
 use Rattle.texts.proofs.walk_start.Reads as walk_start
 use Rattle.texts.proofs.walked_line.Reads as Walked_Line
 use Rattle.texts.proofs.walked_place.Reads as walked_place
+use Rattle.texts.proofs.start.Reads as started
+use Rattle.texts.proofs.next.Reads as moved
 use Rattle.texts.specs.contracts.start as start
 use Rattle.texts.specs.contracts.next as next
 
@@ -140,6 +142,17 @@ module _ {M : Type 1} {𝓤 : Ura M} (𝓛 : Logic 𝓤) (mem : Memory → SProp
 
   pub next_asks_nothing : (walk : Walk) → ent 𝓤 (emp 𝓤) ((next.clauses 𝓛 mem run (κ, tt) (walk, tt)).requires tt)
   next_asks_nothing walk = id⊢ 𝓤 (emp 𝓤)
+
+-- the same of these contracts by the reading that the kit makes of them
+module _ (κs : Lfts 1) where
+  pub start_learnt : (text : Bor (List ℕ)) (walk : Walk) (after : _) → started.Learnt κs (text, tt) walk after → Starts text walk
+  start_learnt text walk after learnt = learnt
+
+  pub next_learnt : (walk : Walk) (handed : Handed) (after : _) → moved.Learnt κs (walk, tt) handed after → Hands walk handed
+  next_learnt walk handed after learnt = learnt
+
+  pub walk_asks_nothing : (text : Bor (List ℕ)) (walk : Walk) → started.Asked κs (text, tt) × moved.Asked κs (walk, tt)
+  walk_asks_nothing text walk = (tt, tt)
 
 -- what is handed out is the line and the walk, and nothing else
 pub handed_whole : (handed : Handed) → handed ≡ record { line = handed.line; walk = handed.walk }
