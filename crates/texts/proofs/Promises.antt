@@ -27,10 +27,10 @@ use Rattle.texts.proofs.Lines as cut
 use Rattle.texts.proofs.WholeText as whole
 use Rattle.texts.proofs.Places as places
 use Rattle.texts.proofs.line_end.Reads as line_end
-use Rattle.texts.proofs.line_at.Reads as line_at_lem
+use Rattle.texts.proofs.line_at.Reads as line_at
 use Rattle.texts.proofs.part.Reads as part
 use Rattle.texts.proofs.walk_start.Reads as walk_start
-use Rattle.texts.proofs.walked_line.Reads as Walked_Line
+use Rattle.texts.proofs.walked_line.Reads as walked_line
 use Rattle.texts.proofs.walked_place.Reads as walked_place
 use Rattle.texts.proofs.start.Reads as started
 use Rattle.texts.proofs.next.Reads as moved
@@ -83,7 +83,7 @@ module _ (κs : Lfts 1) (text : Bor (List ℕ)) (at : ℕ) where
     line_end_stays past = learnt ∙ (cut.walk_done (now text) at past).2
 
   -- `line_at`: that first line, as a part of the text; at or past the end none
-  module _ (line : Bor (List ℕ)) (after : _) (learnt : line_at_lem.Learnt κs (text, (at, tt)) line after) where
+  module _ (line : Bor (List ℕ)) (after : _) (learnt : line_at.Learnt κs (text, (at, tt)) line after) where
     pub line_at_first : FirstLine (now line) (drop at (now text))
     line_at_first = rw learnt.0 (whole.line_first (now text) at)
 
@@ -94,7 +94,7 @@ module _ (κs : Lfts 1) (text : Bor (List ℕ)) (at : ℕ) where
     line_at_lies = places.line_lies line text at learnt.1
 
   -- `walked_line` and `walked_place`: the same of a walk at the place
-  module _ (line : Bor (List ℕ)) (after : _) (learnt : Walked_Line.Learnt κs (text, (at, tt)) line after) where
+  module _ (line : Bor (List ℕ)) (after : _) (learnt : walked_line.Learnt κs (text, (at, tt)) line after) where
     pub walked_line_first : FirstLine (now line) (drop at (now text))
     walked_line_first = rw learnt.0 (whole.line_first (now text) at)
 
@@ -188,11 +188,11 @@ module _ (κs : Lfts 1) (text : Bor (List ℕ)) where
   walked_place_single at after = single_value (past_line (now text) at)
 
   module _ (one other : Bor (List ℕ)) (at : ℕ) (after : _) where
-    pub line_at_single : line_at_lem.Learnt κs (text, (at, tt)) one after → line_at_lem.Learnt κs (text, (at, tt)) other after → OnePart one other
+    pub line_at_single : line_at.Learnt κs (text, (at, tt)) one after → line_at.Learnt κs (text, (at, tt)) other after → OnePart one other
     line_at_single p q = places.one_part text one other (line_start (now text) at) p.0 q.0 p.1 q.1
 
     pub walked_line_single :
-        Walked_Line.Learnt κs (text, (at, tt)) one after → Walked_Line.Learnt κs (text, (at, tt)) other after → OnePart one other
+        walked_line.Learnt κs (text, (at, tt)) one after → walked_line.Learnt κs (text, (at, tt)) other after → OnePart one other
     walked_line_single p q = places.one_part text one other (line_start (now text) at) p.0 q.0 p.1 q.1
 
   pub part_single :
@@ -203,6 +203,6 @@ module _ (κs : Lfts 1) (text : Bor (List ℕ)) where
   -- and asks nothing of what it is passed
   pub nothing_asked :
       (at to : ℕ)
-      → line_end.Asked κs (text, (at, tt)) × line_at_lem.Asked κs (text, (at, tt)) × part.Asked κs (text, (at, (to, tt)))
-      × walk_start.Asked κs (text, tt) × Walked_Line.Asked κs (text, (at, tt)) × walked_place.Asked κs (text, (at, tt))
+      → line_end.Asked κs (text, (at, tt)) × line_at.Asked κs (text, (at, tt)) × part.Asked κs (text, (at, (to, tt)))
+      × walk_start.Asked κs (text, tt) × walked_line.Asked κs (text, (at, tt)) × walked_place.Asked κs (text, (at, tt))
   nothing_asked at to = (tt, tt, tt, tt, tt, tt)

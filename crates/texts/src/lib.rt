@@ -7,6 +7,7 @@ ghost use Rattle.texts.specs.Lines.{line_at, line_start, past_line, part_of, par
 ghost use Rattle.texts.specs.Meaning.{LiesAt, Starts, Hands};
 
 // The place past the line that starts at a place; the place itself where none is left.
+#[tactic(auto, using(crate::proofs::Lines::past_end, crate::proofs::Lines::past_other))]
 pub fn line_end(text: &[u8], at: usize) -> usize
     ensures { result ≡ past_line text.now at }
 {
