@@ -3,8 +3,7 @@ use Prim.Native.Nat.{◌≤◌}
 use lib.ListN.{length}
 use native.Mathlib.Omega.{arith}
 use Rattle.writer.specs.Line.{line_room}
-use Rattle.replies.proofs.Filling.{fewer_left, none_of_some, piece_length}
-use borrow.Author.Rules.{rules}
+use Rattle.replies.proofs.Filling.{fewer_left, none_of_some}
 use Rattle.desk.proofs.print_some.Goals as goal
 
 pub returns-then-print : goal.returns-then-print
