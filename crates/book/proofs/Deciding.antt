@@ -4,7 +4,7 @@ use mathlib.Core.Path.{◌≡◌, refl, sym, ap, ◌∙◌}
 use lib.ListN.{length, take, length-take}
 use native.Mathlib.Omega.{arith}
 use Rattle.ground.specs.Refusal.{Read, wrong, right, number_of}
-use Rattle.ground.proofs.Refusal.{refused_by}
+use Rattle.ground.proofs.Checks.{refused_by}
 use Rattle.choice.specs.BestFit.{best_fit}
 use Rattle.book.specs.Taking.{decided}
 use Rattle.book.specs.Settling.{Settles}

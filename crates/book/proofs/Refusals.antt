@@ -9,7 +9,7 @@ use borrow.Author.Tests.{leb-true, leb-false, le-leb, lt-leb, ltb-true, ltb-fals
 use Rattle.ground.specs.Refusal.{Read, wrong, right, check, ◌>>◌}
 use Rattle.ground.specs.Limits.{last_hour, most_orders}
 use Rattle.ground.proofs.Tests.{by_test, never_both, not_met}
-use Rattle.ground.proofs.Refusal.{never_right, same_right, same_wrong, after_met, after_unmet}
+use Rattle.ground.proofs.Checks.{never_right, same_right, same_wrong, after_met, after_unmet}
 use Rattle.book.specs.Soundness.{is_sound}
 use Rattle.choice.specs.BestFit.{best_fit}
 use Rattle.book.specs.Taking.{decided}

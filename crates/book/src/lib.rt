@@ -12,7 +12,7 @@ ghost use Rattle.book.specs.Taking.{hold, decided, told, Answered};
 ghost use Rattle.book.specs.Settling.{Settles};
 
 use choice::{Choice, best_fit};
-use ground::{check, within};
+use ground::{check_number, within};
 
 // How many free hours a book holds: one for each chamber that there can be.
 const FREE_HOURS: usize = ground::MOST_CHAMBERS as usize;
@@ -99,10 +99,10 @@ impl Book {
     pub fn open(chambers: u32, run: u32) -> Opened
         ensures { result ≡ opened chambers run }
     {
-        let refusal = check(
+        let refusal = check_number(
             within(1, Book::CHAMBERS, chambers),
             4,
-            check(within(1, ground::LONGEST_RUN, run), 4, 0),
+            check_number(within(1, ground::LONGEST_RUN, run), 4, 0),
         );
         if refusal != 0 {
             return Opened {
@@ -233,22 +233,22 @@ fn is_sound(book: Book) -> bool
 }
 
 // The refusal of an order, 0 where there is none.
-#[tactic(auto, using(ground::proofs::Refusal::number_of_check), unfolding(crate::specs::Taking::decided))]
+#[tactic(auto, using(ground::proofs::Checks::number_of_check), unfolding(crate::specs::Taking::decided))]
 fn refusal_of(book: Book, ready: u32, due: u32) -> u32
     ensures { result ≡ number_of (decided book ready due) }
 {
-    let late = check(
+    let late = check_number(
         book.taken < Book::ORDERS,
         6,
-        check(book.clock <= ready, 5, 0),
+        check_number(book.clock <= ready, 5, 0),
     );
-    check(
+    check_number(
         is_sound(book),
         8,
-        check(
+        check_number(
             ready <= Book::LAST_HOUR,
             4,
-            check(due <= Book::LAST_HOUR, 4, late),
+            check_number(due <= Book::LAST_HOUR, 4, late),
         ),
     )
 }

@@ -13,7 +13,7 @@ use Rattle.ground.specs.Range.{within}
 use Rattle.ground.specs.Outcome.{Single}
 use Rattle.ground.proofs.Outcome.{single_value}
 use Rattle.ground.proofs.Tests.{by_test, first_of, second_of}
-use Rattle.ground.proofs.Refusal.{never_right}
+use Rattle.ground.proofs.Checks.{never_right}
 use Rattle.ground.proofs.Range.{within_from, within_low, within_high}
 use Rattle.texts.specs.Meaning.{Between, LiesAt}
 use Rattle.texts.proofs.Places.{between_places}

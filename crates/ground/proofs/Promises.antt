@@ -11,7 +11,10 @@ use lib.ListN.{length, take, drop}
 use lib.Dec.{leb}
 use borrow.Author.Tests.{leb-true, leb-false, le-leb, lt-leb}
 use contract.Lifetimes.{Lfts}
-use Rattle.ground.specs.Refusal.{Or, wrong, right, check, number_of, ◌>>=◌, ◌>>◌}
+use Rattle.std.specs.Prelude.{Result, Ok, Err}
+use Rattle.ground.specs.declared.Refusal.{Refusal}
+use Rattle.ground.specs.declared.Refusal.TheVariants.{Misshapen, NotPlain, NotHour, OutOfRange, BelowClock, BookFull, NoRoom, NotSound, TooLong, Unlisted, Again, Early, Late, Overlapping}
+use Rattle.ground.specs.Refusal.{Or, wrong, right, check, number_of, ◌>>=◌, ◌>>◌, refusal_number, as_read}
 use Rattle.ground.specs.Range.{within}
 use Rattle.ground.specs.Limits.{last_hour, most_chambers, last_plain, longest_run, most_orders, longest_text, first_order_line, last_order_line}
 use Rattle.ground.specs.Spelling.{AllDigits, value_of, DigitsOf}
@@ -20,10 +23,13 @@ use Rattle.ground.specs.Buffer.{onto, fitted, length_of, buffer_after}
 use Rattle.ground.specs.Outcome.{Injective, Single}
 use Rattle.ground.specs.Text.{bytes}
 use Rattle.ground.proofs.Range.{within_from, within_low, within_high}
-use Rattle.ground.proofs.Refusal.{checked_right, checked_wrong}
+use Rattle.ground.proofs.Checks.{checked_right, checked_wrong}
+use Rattle.ground.proofs.Refusals as refusals
 use Rattle.ground.proofs.Digits as digits
 use Rattle.ground.proofs.Buffer.{front_of_onto, rest_of_onto, length_of_onto}
+use Rattle.ground.proofs.check_number.Reads as check_number_reads
 use Rattle.ground.proofs.check.Reads as check_reads
+use Rattle.ground.proofs.Refusal.number.Reads as number_reads
 use Rattle.ground.proofs.within.Reads as within_reads
 use Rattle.ground.proofs.limits.Reads as limits_reads
 
@@ -49,6 +55,27 @@ within_exactly low high number = (
 -- a check that is met passes, and one that is not refuses by its number
 pub check_exactly : (number : ℕ) → (check true number ≡ right tt) × (check false number ≡ wrong number)
 check_exactly number = (refl, refl)
+
+-- the paper's number of each refusal
+pub refusal_numbers :
+    (refusal_number Misshapen ≡ 1) × (refusal_number NotPlain ≡ 2) × (refusal_number NotHour ≡ 3) × (refusal_number OutOfRange ≡ 4)
+    × (refusal_number BelowClock ≡ 5) × (refusal_number BookFull ≡ 6) × (refusal_number NoRoom ≡ 7) × (refusal_number NotSound ≡ 8)
+    × (refusal_number TooLong ≡ 9) × (refusal_number Unlisted ≡ 11) × (refusal_number Again ≡ 12) × (refusal_number Early ≡ 13)
+    × (refusal_number Late ≡ 14) × (refusal_number Overlapping ≡ 15)
+refusal_numbers = (refl, refl, refl, refl, refl, refl, refl, refl, refl, refl, refl, refl, refl, refl)
+
+-- they tell all refusals apart
+pub refusal_numbers_told : Injective refusal_number
+refusal_numbers_told = refusals.refusals_told
+
+-- an answer reads as its value, or as the number of its refusal, and different answers read differently
+pub answer_exactly :
+    {A : Type 0} (value : A) (refusal : Refusal)
+    → (as_read (Ok value) ≡ right value) × (as_read {A = A} (Err refusal) ≡ wrong (refusal_number refusal))
+answer_exactly value refusal = (refl, refl)
+
+pub answers_told : {A : Type 0} → Injective (as_read {A = A})
+answers_told {A} = refusals.answers_told
 
 -- what was wrong first ends it, and a value goes on to what is next
 pub next_exactly :
@@ -126,15 +153,33 @@ pub injective_exactly : {A B : Type 0} (reading : A → B) → Injective reading
 injective_exactly reading = (λ told. told, λ told. told)
 
 -- 1d: the contract of each function admits a single outcome
--- `check` answers the rest where the check is met, and its number where it is not
-module _ (κs : Lfts 0) (met : Bool) (number rest : ℕ) (after : _) where
-  pub check_single : Single (λ answer. check_reads.Learnt κs (met, (number, (rest, tt))) answer after)
+-- `check` passes where the test is met, and gives the refusal where it is not
+module _ (κs : Lfts 0) (met : Bool) (refusal : Refusal) (after : _) where
+  pub check_single : Single (λ answer. check_reads.Learnt κs (met, (refusal, tt)) answer after)
   check_single one other this that = cc
 
   pub check_answers :
-      (answer : ℕ) → check_reads.Learnt κs (met, (number, (rest, tt))) answer after
-      → (met ≡ true → answer ≡ rest) × (met ≡ false → answer ≡ number)
+      (answer : Result (Unit {0}) Refusal) → check_reads.Learnt κs (met, (refusal, tt)) answer after
+      → (met ≡ true → answer ≡ Ok tt) × (met ≡ false → answer ≡ Err refusal)
   check_answers answer learnt = (λ holds. learnt ∙ rw holds, λ fails. learnt ∙ rw fails)
+
+-- `number` gives the paper's number of a refusal
+module _ (κs : Lfts 0) (refusal : Refusal) (after : _) where
+  pub number_single : Single (λ answer. number_reads.Learnt κs (refusal, tt) answer after)
+  number_single one other this that = cc
+
+  pub number_answers : (answer : ℕ) → number_reads.Learnt κs (refusal, tt) answer after → answer ≡ refusal_number refusal
+  number_answers answer learnt = learnt
+
+-- `check_number` answers the rest where the check is met, and its number where it is not
+module _ (κs : Lfts 0) (met : Bool) (number rest : ℕ) (after : _) where
+  pub check_number_single : Single (λ answer. check_number_reads.Learnt κs (met, (number, (rest, tt))) answer after)
+  check_number_single one other this that = cc
+
+  pub check_number_answers :
+      (answer : ℕ) → check_number_reads.Learnt κs (met, (number, (rest, tt))) answer after
+      → (met ≡ true → answer ≡ rest) × (met ≡ false → answer ≡ number)
+  check_number_answers answer learnt = (λ holds. learnt ∙ rw holds, λ fails. learnt ∙ rw fails)
 
 -- `within` answers whether the number is at least the low end and at most the high end
 module _ (κs : Lfts 0) (low high number : ℕ) (after : _) where
@@ -148,5 +193,7 @@ module _ (κs : Lfts 0) (low high number : ℕ) (after : _) where
 -- 1a: no public function asks anything of what it is passed
 pub nothing_asked :
     ((κs : Lfts 0) (passed : _) → check_reads.Asked κs passed)
+    × ((κs : Lfts 0) (passed : _) → number_reads.Asked κs passed)
+    × ((κs : Lfts 0) (passed : _) → check_number_reads.Asked κs passed)
     × ((κs : Lfts 0) (passed : _) → within_reads.Asked κs passed)
-nothing_asked = (λ κs passed. tt, λ κs passed. tt)
+nothing_asked = (λ κs passed. tt, λ κs passed. tt, λ κs passed. tt, λ κs passed. tt)

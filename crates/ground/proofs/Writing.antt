@@ -11,7 +11,7 @@ use borrow.Author.Tests.{leb-true, leb-false, le-leb, lt-leb}
 use Rattle.ground.specs.Refusal.{Read, wrong, right, check, number_of, ◌>>◌}
 use Rattle.ground.specs.Buffer.{onto, fitted, length_of, buffer_after}
 use Rattle.ground.proofs.Tests.{by_test}
-use Rattle.ground.proofs.Refusal.{refused_by}
+use Rattle.ground.proofs.Checks.{refused_by}
 
 -- what a text that is to be written where a test holds comes to, and why
 pub data Outcome (met : Bool) (text buffer : List ℕ) (outcome : Read (List ℕ)) : Type 0 where

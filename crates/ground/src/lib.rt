@@ -1,8 +1,8 @@
 // What every room stands on: definitions that several rooms share, in specs/, and their laws, in proofs/;
-// the limits that more than one room tests, and the two tests that every row of checks is made of. Assumes nothing.
+// the limits that more than one room tests, why something is refused, and the two tests that every row of checks is made of. Assumes nothing.
 #![tactic(auto)]
 
-ghost use Rattle.std.specs.Prelude.{◌≡◌, cond, [], ◌∷◌};
+ghost use Rattle.std.specs.Prelude.{◌≡◌, cond, [], ◌∷◌, Ok, Err};
 ghost use Rattle.ground.specs.Range.{within};
 ghost use Rattle.ground.specs.Limits.{last_hour, most_chambers, last_plain, longest_run, most_orders, longest_text};
 ghost use Rattle.ground.specs.Limits.{first_order_line, last_order_line};
@@ -48,8 +48,70 @@ fn limits() -> [usize; 8]
     ]
 }
 
+// Why something is refused. Each case has the paper's number.
+#[derive(Clone, Copy, Debug, PartialEq, Eq)]
+pub enum Refusal {
+    Misshapen,
+    NotPlain,
+    NotHour,
+    OutOfRange,
+    BelowClock,
+    BookFull,
+    NoRoom,
+    NotSound,
+    TooLong,
+    Unlisted,
+    Again,
+    Early,
+    Late,
+    Overlapping,
+}
+
+impl Refusal {
+    ghost use Rattle.ground.specs.Refusal.{refusal_number};
+
+    // The number of a refusal.
+    pub fn number(self) -> u32
+        ensures { result ≡ refusal_number self }
+    {
+        match self {
+            Refusal::Misshapen => 1,
+            Refusal::NotPlain => 2,
+            Refusal::NotHour => 3,
+            Refusal::OutOfRange => 4,
+            Refusal::BelowClock => 5,
+            Refusal::BookFull => 6,
+            Refusal::NoRoom => 7,
+            Refusal::NotSound => 8,
+            Refusal::TooLong => 9,
+            Refusal::Unlisted => 11,
+            Refusal::Again => 12,
+            Refusal::Early => 13,
+            Refusal::Late => 14,
+            Refusal::Overlapping => 15,
+        }
+    }
+}
+
+impl From<Refusal> for u32 {
+    ghost use Rattle.ground.specs.Refusal.{refusal_number};
+
+    ghost from_gives = { λ refusal number. number ≡ refusal_number refusal };
+
+    fn from(refusal: Refusal) -> u32 {
+        refusal.number()
+    }
+}
+
+// A test that is passed, or refused.
+pub fn check(met: bool, refusal: Refusal) -> Result<(), Refusal>
+    ensures { result ≡ cond met (Ok tt) (Err refusal) }
+{
+    if met { Ok(()) } else { Err(refusal) }
+}
+
 // A check's number where it is not met, else what the checks after it come to; 0 is no refusal.
-pub fn check(met: bool, number: u32, rest: u32) -> u32
+pub fn check_number(met: bool, number: u32, rest: u32) -> u32
     ensures { result ≡ cond met rest number }
 {
     if met { rest } else { number }

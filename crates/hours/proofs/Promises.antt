@@ -9,7 +9,7 @@ use contract.Lifetimes.{Lfts}
 use Rattle.ground.specs.Refusal.{wrong, right}
 use Rattle.ground.specs.Spelling.{Plain, value_of}
 use Rattle.ground.specs.Outcome.{Injective, Single}
-use Rattle.ground.proofs.Refusal.{never_right, same_right, same_wrong}
+use Rattle.ground.proofs.Checks.{never_right, same_right, same_wrong}
 use Rattle.ground.proofs.Outcome.{answered_exactly}
 use Rattle.hours.specs.Spelling.{Spells}
 use Rattle.hours.specs.Reading.{hour_of, as_hour, plain_of, as_plain}

@@ -15,7 +15,7 @@ use Rattle.ground.specs.Limits.{last_hour}
 use Rattle.ground.specs.Spelling.{DigitByte, value_after, value_of, Plain}
 use Rattle.ground.proofs.Tests.{by_test}
 use Rattle.ground.proofs.Promises.{within_exactly}
-use Rattle.ground.proofs.Refusal.{ReadAs, refused_otherwise}
+use Rattle.ground.proofs.Checks.{ReadAs, refused_otherwise}
 use Rattle.ground.proofs.Digits.{plain_one, plain_more, plain_worth, value_more}
 use Rattle.classes.specs.Classes.{comma, is_digit, digit_of, class_of}
 use Rattle.classes.proofs.Classes.{digit_found, class_of_digit, class_of_mark}

@@ -12,7 +12,7 @@ use Rattle.ground.specs.Digits.{spelled}
 use Rattle.ground.specs.Spelling.{value_of, DigitsOf}
 use Rattle.ground.specs.Text.{bytes}
 use Rattle.ground.proofs.Tests.{both, never_both}
-use Rattle.ground.proofs.Refusal.{never_right}
+use Rattle.ground.proofs.Checks.{never_right}
 use Rattle.ground.proofs.Promises.{spelled_exactly}
 use Rattle.fields.specs.Meaning.{is_clean, all_clean, tabbed}
 use Rattle.fields.proofs.Promises.{one_split}

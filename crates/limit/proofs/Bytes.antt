@@ -6,7 +6,7 @@ use lib.ListN.{length, take, replicate, length-map}
 use native.Mathlib.Omega.{arith}
 use Rattle.ground.specs.Refusal.{right}
 use Rattle.ground.specs.Limits.{most_chambers}
-use Rattle.ground.proofs.Refusal.{same_right}
+use Rattle.ground.proofs.Checks.{same_right}
 use Rattle.texts.specs.Lines.{lines_of, line_at}
 use Rattle.lines.proofs.Promises.{heading_ranges}
 use Rattle.book.specs.declared.Book.{Book}

@@ -13,7 +13,7 @@ use Rattle.ground.specs.Limits.{longest_text}
 use Rattle.ground.specs.Digits.{spelled}
 use Rattle.ground.specs.Spelling.{AllDigits}
 use Rattle.ground.specs.Text.{bytes}
-use Rattle.ground.proofs.Refusal.{never_right, same_right, passed_by}
+use Rattle.ground.proofs.Checks.{never_right, same_right, passed_by}
 use Rattle.ground.proofs.Promises.{fits_exactly}
 use Rattle.texts.specs.Lines.{lines_of, line_at}
 use Rattle.fields.proofs.Promises.{one_split}

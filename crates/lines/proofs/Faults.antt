@@ -8,7 +8,7 @@ use lib.ListN.{length, get_or}
 use native.Mathlib.Omega.{arith}
 use Rattle.ground.specs.Refusal.{Read, wrong, right, ◌>>=◌}
 use Rattle.ground.specs.Limits.{last_hour, most_chambers, longest_run, last_plain}
-use Rattle.ground.proofs.Refusal.{never_right, same_right, same_wrong}
+use Rattle.ground.proofs.Checks.{never_right, same_right, same_wrong}
 use Rattle.fields.specs.Fields.{fields_of, shape_of}
 use Rattle.fields.proofs.Promises.{splits_exactly, has_fields, shape_ways}
 use Rattle.lines.specs.Reading.{last_grower, read_all, line_of, heading_readers, order_readers, load_readers}

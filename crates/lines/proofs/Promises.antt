@@ -9,7 +9,7 @@ use contract.Lifetimes.{Lfts}
 use denote.Ref.{Bor}
 use Rattle.ground.specs.Refusal.{wrong, right}
 use Rattle.ground.specs.Outcome.{Injective, Single}
-use Rattle.ground.proofs.Refusal.{never_right, same_right, same_wrong}
+use Rattle.ground.proofs.Checks.{never_right, same_right, same_wrong}
 use Rattle.ground.proofs.Outcome.{single_answer, answered_exactly}
 use Rattle.lines.specs.Reading.{last_grower, steam, heading_of, order_of, load_of, as_heading, as_order, as_load}
 use Rattle.lines.specs.Meaning.{Kind, LineFault, misshapen, at_field, HeadingReads, HeadingFault, OrderReads, OrderFault, LoadReads, LoadFault}

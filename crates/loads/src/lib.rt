@@ -8,7 +8,7 @@ ghost use Rattle.ground.specs.Range.{within};
 ghost use Rattle.ground.specs.Limits.{first_order_line};
 ghost use Rattle.loads.specs.Checks.{load_marked, overlap, load_from};
 
-use ground::{FIRST_ORDER_LINE, check};
+use ground::{FIRST_ORDER_LINE, check_number};
 use lines::Load;
 
 // One of some hours; 0 where there are fewer.
@@ -49,10 +49,14 @@ pub fn load_refusal(load: Load, run: u32, readies: &[u32], dues: &[u32], lines: 
     let alone = hour_at(lines, place) == 0;
     let waited = ready <= load.start;
     let ended = load.start as u64 + run as u64 <= due as u64;
-    check(
+    check_number(
         named,
         11,
-        check(alone, 12, check(waited, 13, check(ended, 14, 0))),
+        check_number(
+            alone,
+            12,
+            check_number(waited, 13, check_number(ended, 14, 0)),
+        ),
     )
 }
 

@@ -8,7 +8,7 @@ use mathlib.Core.List.{List, [], ◌∷◌, ◌++◌, nil≢cons, head-eq_of_con
 use lib.ListN.{length, get_or}
 use native.Mathlib.Omega.{arith}
 use Rattle.ground.specs.Refusal.{Read, wrong, right}
-use Rattle.ground.proofs.Refusal.{same_wrong}
+use Rattle.ground.proofs.Checks.{same_wrong}
 use Rattle.lines.specs.Reading.{order_of}
 use Rattle.lines.specs.declared.Order.{Order}
 use Rattle.lines.proofs.Promises.{order_reads, order_fault, line_fault_from}

@@ -9,7 +9,7 @@ use native.Mathlib.Omega.{arith}
 use borrow.Author.Tests.{leb-true, leb-false, le-leb, lt-leb, ne_eqb}
 use Rattle.ground.specs.Refusal.{Read, wrong, right, ◌>>=◌}
 use Rattle.ground.specs.Limits.{longest_text}
-use Rattle.ground.proofs.Refusal.{never_right, same_right, same_wrong, passed_by}
+use Rattle.ground.proofs.Checks.{never_right, same_right, same_wrong, passed_by}
 use Rattle.ground.proofs.Tests.{by_test}
 use Rattle.texts.specs.Lines.{line_at}
 use Rattle.lines.specs.Reading.{heading_of}

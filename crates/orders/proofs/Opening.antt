@@ -10,7 +10,7 @@ use borrow.Author.Tests.{eqb-true, eq-eqb}
 use contract.Lifetimes.{Lfts}
 use denote.Ref.{Bor}
 use Rattle.ground.specs.Refusal.{Read, wrong, right}
-use Rattle.ground.proofs.Refusal.{never_right, same_right}
+use Rattle.ground.proofs.Checks.{never_right, same_right}
 use Rattle.ground.proofs.Tests.{by_test, never_both}
 use Rattle.texts.specs.Lines.{line_at, past_line}
 use Rattle.texts.proofs.Lines.{past_is}

@@ -6,7 +6,7 @@ use mathlib.Core.List.{List, [], ◌∷◌}
 use lib.ListN.{length}
 use native.Mathlib.Omega.{arith}
 use Rattle.ground.specs.Refusal.{Read, wrong, right}
-use Rattle.ground.proofs.Refusal.{same_right}
+use Rattle.ground.proofs.Checks.{same_right}
 use Rattle.lines.specs.Reading.{order_of}
 use Rattle.lines.specs.Meaning.{OrderReads}
 use Rattle.lines.specs.declared.Order.{Order}

@@ -10,7 +10,7 @@ use Rattle.ground.specs.Limits.{most_chambers, last_plain}
 use Rattle.ground.specs.Spelling.{DigitByte, AllDigits}
 use Rattle.ground.specs.Digits.{last_digit, spelled}
 use Rattle.ground.proofs.Tests.{both}
-use Rattle.ground.proofs.Refusal.{same_right}
+use Rattle.ground.proofs.Checks.{same_right}
 use Rattle.ground.proofs.Digits.{last_is_digit, spelled_digits, spelled_worth, spelled_plain}
 use Rattle.classes.specs.Classes.{comma}
 use Rattle.writer.specs.Writing.{hour_text}

@@ -11,7 +11,7 @@ use native.Mathlib.Omega.{arith}
 use borrow.Author.Tests.{leb-true, leb-false, le-leb, lt-leb}
 use Rattle.ground.specs.Refusal.{Or, wrong, right, ◌>>=◌}
 use Rattle.ground.specs.Limits.{longest_text}
-use Rattle.ground.proofs.Refusal.{never_right, same_right, same_wrong}
+use Rattle.ground.proofs.Checks.{never_right, same_right, same_wrong}
 use Rattle.ground.proofs.Tests.{by_test}
 use Rattle.texts.specs.Lines.{lines_of, line_at, past_line, part_of}
 use Rattle.lines.specs.Reading.{heading_of}

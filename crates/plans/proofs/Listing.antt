@@ -8,7 +8,7 @@ use mathlib.Core.List.{List, [], ◌∷◌, ◌++◌, map, append-nil, append_as
 use lib.ListN.{length}
 use native.Mathlib.Omega.{arith}
 use Rattle.ground.specs.Refusal.{Read, wrong, right, ◌>>◌}
-use Rattle.ground.proofs.Refusal.{never_right, same_right, same_wrong}
+use Rattle.ground.proofs.Checks.{never_right, same_right, same_wrong}
 use Rattle.texts.specs.Lines.{line_at, past_line}
 use Rattle.texts.specs.Meaning.{joined}
 use Rattle.lines.specs.Reading.{heading_of, order_of}

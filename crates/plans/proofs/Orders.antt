@@ -9,7 +9,7 @@ use native.Mathlib.Numerals.{add-one}
 use native.Mathlib.Omega.{arith}
 use Rattle.ground.specs.Refusal.{Read, wrong, right, number_of}
 use Rattle.ground.specs.Limits.{most_orders, longest_text}
-use Rattle.ground.proofs.Refusal.{refused_by}
+use Rattle.ground.proofs.Checks.{refused_by}
 use Rattle.texts.specs.Lines.{line_at, past_line}
 use Rattle.lines.specs.Reading.{order_of}
 use Rattle.lines.specs.declared.Order.{Order}

@@ -11,7 +11,7 @@ use borrow.Author.Tests.{eqb-true, eqb-false, ne_eqb, not-true}
 use Rattle.ground.specs.Refusal.{Read, wrong, right, check, number_of, ◌>>=◌, ◌>>◌}
 use Rattle.ground.specs.Limits.{most_chambers, most_orders, first_order_line}
 use Rattle.ground.specs.Range.{within}
-use Rattle.ground.proofs.Refusal.{refused_by}
+use Rattle.ground.proofs.Checks.{refused_by}
 use Rattle.ground.proofs.Tests.{by_test}
 use Rattle.ground.proofs.Range.{within_low, within_high}
 use Rattle.texts.specs.Lines.{lines_of, line_at, past_line}

@@ -9,7 +9,7 @@ use contract.Lifetimes.{Lfts}
 use Rattle.ground.specs.Refusal.{Or, wrong, right}
 use Rattle.ground.specs.Limits.{longest_text}
 use Rattle.ground.specs.Outcome.{Injective, Single}
-use Rattle.ground.proofs.Refusal.{never_right, same_right, same_wrong}
+use Rattle.ground.proofs.Checks.{never_right, same_right, same_wrong}
 use Rattle.ground.proofs.Outcome.{single_answer}
 use Rattle.ground.proofs.Tests.{by_test}
 use Rattle.texts.specs.Lines.{lines_of}

@@ -7,7 +7,7 @@ use mathlib.Core.List.{List, [], ◌∷◌, ◌++◌}
 use lib.ListN.{length, length-append}
 use native.Mathlib.Omega.{arith}
 use Rattle.ground.specs.Refusal.{Or, Read, wrong, right, ◌>>=◌}
-use Rattle.ground.proofs.Refusal.{never_right, same_right, same_wrong}
+use Rattle.ground.proofs.Checks.{never_right, same_right, same_wrong}
 use Rattle.texts.specs.Meaning.{joined}
 use Rattle.plans.specs.Judging.{fault_at, through}
 use Rattle.plans.specs.Meaning.{fault_of}

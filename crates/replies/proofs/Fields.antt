@@ -9,7 +9,7 @@ use borrow.Author.Tests.{leb-true}
 use Rattle.ground.specs.Text.{bytes}
 use Rattle.ground.specs.Digits.{spelled}
 use Rattle.ground.specs.Spelling.{DigitsOf}
-use Rattle.ground.proofs.Refusal.{same_right}
+use Rattle.ground.proofs.Checks.{same_right}
 use Rattle.ground.proofs.Tests.{both}
 use Rattle.ground.proofs.Promises.{spelled_exactly}
 use Rattle.hours.specs.Spelling.{Spells}

@@ -6,7 +6,7 @@ use lib.ListN.{length, get_or, length-drop}
 use native.Mathlib.Omega.{arith}
 use Rattle.ground.specs.Refusal.{wrong, right}
 use Rattle.ground.specs.Limits.{longest_text}
-use Rattle.ground.proofs.Refusal.{never_right}
+use Rattle.ground.proofs.Checks.{never_right}
 use Rattle.texts.specs.Lines.{lines_of, line_at}
 use Rattle.texts.specs.Meaning.{joined}
 use Rattle.texts.proofs.Promises.{walk_on}

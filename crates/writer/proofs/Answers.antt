@@ -11,7 +11,7 @@ use Rattle.ground.specs.Refusal.{Read, wrong, right, check, ◌>>◌}
 use Rattle.ground.specs.Buffer.{onto, fitted, length_of, buffer_after}
 use Rattle.ground.specs.Outcome.{Injective}
 use Rattle.ground.proofs.Tests.{never_both, not_met}
-use Rattle.ground.proofs.Refusal.{never_right, same_right, same_wrong}
+use Rattle.ground.proofs.Checks.{never_right, same_right, same_wrong}
 use Rattle.ground.proofs.Buffer.{front_of_onto, rest_of_onto, length_of_onto}
 use Rattle.ground.proofs.Writing.{Outcome, unmet, too_long, fits, outcome_of}
 use Rattle.writer.specs.Writing.{as_length}

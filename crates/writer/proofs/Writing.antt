@@ -12,7 +12,7 @@ use Rattle.ground.specs.Limits.{last_hour}
 use Rattle.ground.specs.Digits.{last_digit, last_digits, spelled}
 use Rattle.classes.specs.Classes.{is_digit}
 use Rattle.ground.specs.Buffer.{onto, fitted, length_of, buffer_after}
-use Rattle.ground.proofs.Refusal.{never_right, same_right}
+use Rattle.ground.proofs.Checks.{never_right, same_right}
 use Rattle.ground.proofs.Digits.{last_is_digit, spelled_worth, spelled_plain}
 use Rattle.ground.proofs.Buffer.{front_of_onto}
 use Rattle.hours.specs.Spelling.{Spells}

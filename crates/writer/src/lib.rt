@@ -10,7 +10,7 @@ ghost use Rattle.classes.specs.Classes.{comma};
 ghost use Rattle.writer.specs.Writing.{hour_written, as_length, front_of, text_in};
 ghost use Rattle.writer.specs.Line.{place_after, held_after, line_in};
 
-use ground::{LAST_HOUR, check};
+use ground::{LAST_HOUR, check_number};
 
 // Room enough for any line that a program prints or a plan has.
 pub const LINE_ROOM: usize = 48;
@@ -52,7 +52,7 @@ pub fn put_digits(number: u32, buffer: &mut [u8])
 fn writing_refusal(in_range: bool, length: usize, room: usize) -> u32
     ensures { result ≡ cond in_range (cond (leb length room) 0 7) 4 }
 {
-    check(in_range, 4, check(length <= room, 7, 0))
+    check_number(in_range, 4, check_number(length <= room, 7, 0))
 }
 
 // Fills a buffer with an hour's text: two digits at its end, the comma before them, and the whole hours in the rest.
