@@ -6,7 +6,7 @@ use lib.Dec.{eqb}
 use Rattle.std.specs.Prelude.{Result, Ok, Err}
 use Rattle.ground.specs.declared.Refusal.{Refusal}
 use Rattle.ground.specs.declared.Refusal.TheVariants.{Misshapen, NotPlain, NotHour, OutOfRange, BelowClock, BookFull, NoRoom, NotSound, TooLong, Unlisted, Again, Early, Late, Overlapping}
-use Rattle.ground.specs.Refusal.{Read, wrong, right, refusal_number, as_read}
+use Rattle.ground.specs.Refusal.{wrong, right, refusal_number, as_read}
 use Rattle.ground.specs.Outcome.{Injective}
 use Rattle.ground.proofs.Checks.{never_right, same_right, same_wrong}
 
