@@ -14,6 +14,7 @@ use contract.Lifetimes.{Lfts}
 use Rattle.std.specs.Prelude.{Result, Ok, Err}
 use Rattle.ground.specs.declared.Refusal.{Refusal}
 use Rattle.ground.specs.declared.Refusal.TheVariants.{Misshapen, NotPlain, NotHour, OutOfRange, BelowClock, BookFull, NoRoom, NotSound, TooLong, Unlisted, Again, Early, Late, Overlapping}
+use Rattle.ground.specs.declared.TheConstants.{LAST_HOUR, MOST_CHAMBERS, LAST_PLAIN, LONGEST_RUN, MOST_ORDERS, LONGEST_TEXT, FIRST_ORDER_LINE, LAST_ORDER_LINE}
 use Rattle.ground.specs.Refusal.{Or, wrong, right, check, number_of, ◌>>=◌, ◌>>◌, refusal_number, as_read}
 use Rattle.ground.specs.Range.{within}
 use Rattle.ground.specs.Limits.{last_hour, most_chambers, last_plain, longest_run, most_orders, longest_text, first_order_line, last_order_line}
@@ -31,7 +32,6 @@ use Rattle.ground.proofs.check_number.Reads as check_number_reads
 use Rattle.ground.proofs.check.Reads as check_reads
 use Rattle.ground.proofs.Refusal.number.Reads as number_reads
 use Rattle.ground.proofs.within.Reads as within_reads
-use Rattle.ground.proofs.limits.Reads as limits_reads
 
 -- the limits are the paper's: hours, chambers, plain numbers, runs, orders taken, bytes of a text, and the lines that an order can stand on
 pub limits :
@@ -39,11 +39,11 @@ pub limits :
     × (first_order_line ≡ 2) × (last_order_line ≡ 513)
 limits = (refl, refl, refl, refl, refl, refl, refl, refl)
 
--- and so are the constants of the code, in the same order
+-- and so are the constants of the code
 pub limits_given :
-    (κs : Lfts 0) (numbers : List ℕ) (after : _) → limits_reads.Learnt κs tt numbers after
-    → numbers ≡ 999_999 ∷ 8 ∷ 9_999 ∷ 9_999 ∷ 512 ∷ 65_536 ∷ 2 ∷ 513 ∷ []
-limits_given κs numbers after learnt = learnt
+    (LAST_HOUR ≡ 999_999) × (MOST_CHAMBERS ≡ 8) × (LAST_PLAIN ≡ 9_999) × (LONGEST_RUN ≡ 9_999) × (MOST_ORDERS ≡ 512) × (LONGEST_TEXT ≡ 65_536)
+    × (FIRST_ORDER_LINE ≡ 2) × (LAST_ORDER_LINE ≡ 513)
+limits_given = (refl, refl, refl, refl, refl, refl, refl, refl)
 
 -- a number lies in a range exactly when it is at least the low end and at most the high end
 pub within_exactly : (low high number : ℕ) → (within low high number ≡ true) ↔ ((low ≤ number) × (number ≤ high))

@@ -2,10 +2,8 @@
 // the limits that more than one room tests, why something is refused, and the two tests that every row of checks is made of. Assumes nothing.
 #![tactic(auto)]
 
-ghost use Rattle.std.specs.Prelude.{◌≡◌, cond, [], ◌∷◌, Ok, Err};
+ghost use Rattle.std.specs.Prelude.{◌≡◌, cond, Ok, Err};
 ghost use Rattle.ground.specs.Range.{within};
-ghost use Rattle.ground.specs.Limits.{last_hour, most_chambers, last_plain, longest_run, most_orders, longest_text};
-ghost use Rattle.ground.specs.Limits.{first_order_line, last_order_line};
 
 // The last hour, in hundredths: 9999,99.
 pub const LAST_HOUR: u32 = 999_999;
@@ -30,23 +28,6 @@ pub const FIRST_ORDER_LINE: u32 = 2;
 
 // The last one, in a list of as many orders as a book takes.
 pub const LAST_ORDER_LINE: u32 = MOST_ORDERS + 1;
-
-// The limits as numbers: a law can name what a function gives, and no constant.
-fn limits() -> [usize; 8]
-    ensures { result
-        ≡ last_hour ∷ most_chambers ∷ last_plain ∷ longest_run ∷ most_orders ∷ longest_text ∷ first_order_line ∷ last_order_line ∷ [] }
-{
-    [
-        LAST_HOUR as usize,
-        MOST_CHAMBERS as usize,
-        LAST_PLAIN as usize,
-        LONGEST_RUN as usize,
-        MOST_ORDERS as usize,
-        LONGEST_TEXT,
-        FIRST_ORDER_LINE as usize,
-        LAST_ORDER_LINE as usize,
-    ]
-}
 
 // Why something is refused. Each case has the paper's number.
 #[derive(Clone, Copy, Debug, PartialEq, Eq)]
