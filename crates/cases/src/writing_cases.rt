@@ -37,11 +37,11 @@ fn write_load_to(order: u32, chamber: u32, start: u32, buffer: &mut [u8]) {
 // What a writing answered, and the whole buffer afterwards.
 fn show(written: Written, buffer: &[u8]) {
     match written {
-        Written::Length(length) => {
+        Ok(length) => {
             results::word(b"length");
             results::number(length as u64);
         }
-        Written::Refused(number) => results::refused(number),
+        Err(number) => results::refused(number),
     }
     results::text(buffer);
 }

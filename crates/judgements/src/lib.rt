@@ -31,7 +31,7 @@ fn put_right(count: u32, own: &mut [u8]) -> Written
     ensures comes { Comes (right 0) (judgement_put (Judgement.Right count)) own.old (as_length result) own.new }
     ensures count_bound { bytes_of_all (judgement_put (Judgement.Right count)) ≤ line_room }
 {
-    let worded = put_word(Written::Length(0), b"right", b'\t', own);
+    let worded = put_word(Ok(0), b"right", b'\t', own);
     put_number(worded, count, b'\n', own)
 }
 
@@ -40,7 +40,7 @@ fn put_fault(fault: Fault, own: &mut [u8]) -> Written
     ensures comes { Comes (right 0) (judgement_put (Judgement.Wrong fault)) own.old (as_length result) own.new }
     ensures fault_bound { bytes_of_all (judgement_put (Judgement.Wrong fault)) ≤ line_room }
 {
-    let worded = put_word(Written::Length(0), b"fault", b'\t', own);
+    let worded = put_word(Ok(0), b"fault", b'\t', own);
     let numbered = put_number(worded, fault.number, b'\t', own);
     let named = put_text(numbered, fault.plan, own);
     put_number(named, fault.line, b'\n', own)

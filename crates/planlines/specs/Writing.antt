@@ -23,10 +23,6 @@ plan_written order chamber start = do
   hour ← hour_written comma start
   right (plan_text order chamber start)
 
--- a line of which nothing is put yet
-abbrev pub plan_begun : ℕ → ℕ → Read ℕ
-plan_begun order chamber = places_checked order chamber >> right 0
-
 -- the fields of a plan line, of which the start may be refused
 abbrev pub plan_fields : ℕ → ℕ → ℕ → List (Read (List ℕ))
 plan_fields order chamber start = right (spelled order) ∷ right (spelled chamber) ∷ hour_written comma start ∷ []

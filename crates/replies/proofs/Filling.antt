@@ -15,7 +15,7 @@ use Rattle.ground.proofs.Tests.{by_test, never_both, second_of, not_met}
 use Rattle.ground.proofs.Buffer.{front_of_onto, rest_of_onto, length_of_onto}
 use Rattle.writer.specs.Writing.{as_length}
 use Rattle.writer.specs.Line.{line_room}
-use Rattle.writer.specs.declared.Written.{Written}
+use Rattle.std.specs.Prelude.{Result}
 use Rattle.orders.proofs.Places.{moves_on}
 use Rattle.replies.specs.Filling.{bytes_in, line_due, past_line_due, may_go_on, ahead, filling_up_to, filling, Fills}
 use Rattle.replies.specs.Steps.{count_in, Put, LineBehind, left_of}
@@ -40,7 +40,7 @@ stands (right bytes) buffer = refl
 -- what the writing of a line comes to where there is room for any line
 pub put_comes :
     (line : Read (List ℕ)) → length (bytes_in line) ≤ line_room → (buffer : List ℕ) → line_room ≤ length buffer
-    → (written : Written) {held : List ℕ} {filled : Filled} {past : Reply} → as_length written ≡ length_of (fitted buffer line)
+    → (written : Result ℕ ℕ) {held : List ℕ} {filled : Filled} {past : Reply} → as_length written ≡ length_of (fitted buffer line)
     → held ≡ buffer_after buffer (fitted buffer line) → filled.length ≡ count_in (as_length written) → filled.reply ≡ past
     → Put line past buffer filled held
 put_comes line fits buffer room written answered kept counted comes =

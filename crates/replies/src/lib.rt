@@ -53,7 +53,7 @@ fn put_reply(line: u32, answer: Answer, own: &mut [u8]) -> Written
     ensures comes { Comes (right 0) (reply_put line answer) own.old (as_length result) own.new }
     ensures answer_bound { bytes_of_all (reply_put line answer) ≤ line_room }
 {
-    let numbered = put_number(Written::Length(0), line, b'\t', own);
+    let numbered = put_number(Ok(0), line, b'\t', own);
     put_answer(numbered, answer, own)
 }
 
@@ -61,7 +61,7 @@ fn put_reply(line: u32, answer: Answer, own: &mut [u8]) -> Written
 fn put_sum(taken: u32, kept: u32, own: &mut [u8]) -> Written
     ensures { Comes (right 0) (sum_put taken kept) own.old (as_length result) own.new }
 {
-    let worded = put_word(Written::Length(0), b"sum", b'\t', own);
+    let worded = put_word(Ok(0), b"sum", b'\t', own);
     let numbered = put_number(worded, taken, b'\t', own);
     put_number(numbered, kept, b'\n', own)
 }
@@ -134,8 +134,8 @@ fn filled_by(written: Written, reply: Reply) -> Filled
     ensures { (result.length ≡ count_in (as_length written)) × (result.reply ≡ reply) }
 {
     match written {
-        Written::Length(length) => Filled { length, reply },
-        Written::Refused(_) => Filled { length: 0, reply },
+        Ok(length) => Filled { length, reply },
+        Err(_) => Filled { length: 0, reply },
     }
 }
 

@@ -1,12 +1,15 @@
 -- Laws of a line that is put together field behind field, and written whole or not at all. Assumes nothing.
 use Prim.Native.Nat.{ℕ, ◌+◌, ◌-◌, ◌/◌, ◌≤◌, ◌<◌}
 use mathlib.Core.Path.{◌≡◌, refl, sym, ap, ◌∙◌}
+use mathlib.Core.Bool.{Bool, true, false, cond}
+use Rattle.std.specs.Prelude.{Result, Ok, Err}
+use Rattle.ground.specs.declared.Refusal.{Refusal}
 use mathlib.Core.List.{List, [], ◌∷◌, ◌++◌, append_assoc}
 use lib.ListN.{length, take, set, length-append}
 use lib.Seq.{length-take-le, drop-drop}
 use lib.Dec.{leb}
 use native.Mathlib.Omega.{arith}
-use borrow.Author.Tests.{le-leb, lt-leb, lt-ltb, le-ltb, leb-true, leb-false}
+use borrow.Author.Tests.{le-leb, lt-leb, lt-ltb, leb-true, leb-false}
 use borrow.Rule.Slice.PartMut.{put_mid, mid_of, mid_len}
 use Rattle.ground.specs.Refusal.{Read, wrong, right, ◌>>=◌, ◌>>◌}
 use Rattle.ground.specs.Limits.{last_hour}
@@ -14,19 +17,22 @@ use Rattle.ground.specs.Buffer.{onto, fitted, length_of, buffer_after}
 use Rattle.ground.specs.Digits.{spelled}
 use Rattle.ground.proofs.Tests.{by_test}
 use Rattle.ground.proofs.Digits.{spelled_most}
-use Rattle.ground.proofs.Buffer.{front_of_onto, length_of_onto, onto_all, onto_byte}
+use Rattle.ground.proofs.Buffer.{front_of_onto, length_of_onto, onto_byte}
 use Rattle.classes.specs.Classes.{comma}
 use Rattle.texts.specs.Lines.{line_end}
 use Rattle.fields.specs.Fields.{tab}
 use Rattle.fields.specs.Meaning.{tabbed}
 use Rattle.writer.specs.Writing.{hour_text, hour_written}
-use Rattle.writer.specs.Line.{front_after, place_after, held_after, line_with, line_in}
+use Rattle.writer.specs.Line.{front_after, Puts, line_with, line_in}
 use Rattle.writer.specs.Steps.{fields_after, Comes, bytes_of, bytes_of_all, texts_of, line_made}
 use Rattle.writer.proofs.Writing.{length_of_text}
 
--- what a field put behind a line so far comes to
-abbrev pub Puts : Read ℕ → Read (List ℕ) → ℕ → List ℕ → Read ℕ → List ℕ → Type 0
-Puts so_far field stop buffer answer held = (answer ≡ place_after so_far field stop buffer) × (held ≡ held_after so_far field stop buffer)
+-- a check that was passed was met
+pub check_met :
+    (met : Bool) (refusal : Refusal) {checked : Result (Unit {0}) Refusal} {value : Unit {0}} → checked ≡ cond met (Ok tt) (Err refusal) → checked ≡ Ok value
+    → met ≡ true
+check_met true refusal checks passed = refl
+check_met false refusal checks passed = cc
 
 -- A field and its stop, put at a place with room for them, stand behind the bytes before the place.
 module _ (at : ℕ) (field : List ℕ) (stop : ℕ) (buffer : List ℕ) (room : at + length field < length buffer) where
@@ -38,21 +44,14 @@ module _ (at : ℕ) (field : List ℕ) (stop : ℕ) (buffer : List ℕ) (room : 
   pub front_length : length (take at buffer ++ field ++ stop ∷ []) ≡ at + length field + 1
   front_length = simp length-append (omega (arith, length-take-le at buffer (omega arith)))
 
--- a field of so many bytes and its stop, which have no room, are not put
-pub field_stays :
-    (at : ℕ) (field : List ℕ) (stop : ℕ) (buffer : List ℕ) (size : ℕ) → size ≡ length field → length buffer ≤ at + size
-    → Puts (right at) (right field) stop buffer (wrong 7) buffer
-unfolding front_after
-field_stays at field stop buffer size counted short = rw (le-ltb (at + length field) (length buffer) (omega arith)) (refl, refl)
-
 -- a field of so many bytes and its stop have room from a place of a buffer on
 pub record Fits (at : ℕ) (field : List ℕ) (stop : ℕ) (buffer : List ℕ) (size : ℕ) : Type 0 where
   pub counted : size ≡ length field
   pub room : at + size < length buffer
 
 module _ {at : ℕ} {field : List ℕ} {stop : ℕ} {buffer : List ℕ} {size : ℕ} (fits : Fits at field stop buffer size) where
-  -- the part lent for the field has its length
-  pub part_sized : length (mid_of at (at + size - at) buffer) ≡ length field
+  -- the part lent for the field is as long
+  pub part_sized : length (mid_of at (at + size - at) buffer) ≡ size
   part_sized = mid_len at (at + size) buffer (omega arith) ∙ omega arith
 
   -- the byte that stops it comes behind so many bytes
@@ -84,14 +83,6 @@ hour_within_lem hour within = rw (le-leb hour last_hour within)
 pub hour_above : (hour : ℕ) → last_hour < hour → hour_written comma hour ≡ wrong 4
 unfolding hour_written
 hour_above hour above = rw (lt-leb hour last_hour above)
-
--- a part as long as an hour's text is all filled by it
-pub hour_fills :
-    (hour : ℕ) (part : List ℕ) → hour ≤ last_hour → length part ≡ length (hour_text comma hour)
-    → buffer_after part (fitted part (hour_written comma hour)) ≡ hour_text comma hour
-unfolding fitted
-hour_fills hour part within sized =
-    rw (hour_within_lem hour within, le-leb (length (hour_text comma hour)) (length part) (omega arith)) (onto_all (hour_text comma hour) part (sym sized))
 
 -- the last of the fields put one behind the other has the line end behind it
 pub last_put :

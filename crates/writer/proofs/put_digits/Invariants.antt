@@ -1,4 +1,3 @@
-use Prim.Native.Nat.{◌≤◌}
 use mathlib.Core.Path.{◌≡◌}
 use mathlib.Core.List.{◌++◌}
 use lib.ListN.{length, drop}
@@ -6,10 +5,4 @@ use Rattle.ground.specs.Digits.{last_digits}
 use Rattle.writer.proofs.put_digits.Given as goal
 
 abbrev pub invariant-loop-at : goal.invariant-loop-at
-invariant-loop-at l =
-    (l.at ≤ length l.buffer)
-    × (length l.buffer ≡ length l.initial.buffer)
-    × (last_digits l.at l.left ++ drop l.at l.buffer ≡ last_digits (length l.initial.buffer) l.number)
-
-abbrev pub decreases-loop-at : goal.decreases-loop-at
-decreases-loop-at l = l.at
+invariant-loop-at l = last_digits l.at l.left ++ drop l.at l.buffer ≡ last_digits (length l.initial.buffer) l.number
