@@ -44,8 +44,7 @@ fn yes_numbers(answer: Answer) -> [u32; 2]
 {
     match answer {
         Answer::Yes { chamber, start } => [chamber, start],
-        Answer::No => [0, 0],
-        Answer::Refused(_) => [0, 0],
+        Answer::No | Answer::Refused(_) => [0, 0],
     }
 }
 
@@ -56,8 +55,8 @@ pub struct Taken {
     pub book: Book,
 }
 
-// A book that was opened, and why it is refused, if it is. Both stand side by side and are no Result: a book that is refused comes back too,
-// with every field 0.
+// A book that was opened, and why it is refused, if it is. They stand side by side and are no Result, since the paper wants a book of a
+// refused opening too, with every field 0.
 #[derive(Clone, Copy)]
 pub struct Opened {
     pub refusal: Option<Refusal>,
