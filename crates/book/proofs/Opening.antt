@@ -3,6 +3,8 @@ use Prim.Native.Nat.{ℕ}
 use mathlib.Core.Path.{◌≡◌}
 use mathlib.Core.Bool.{◌&&◌}
 use mathlib.Core.Logic.{◌⊎◌, inl, inr, ⊎_elim}
+use Rattle.std.specs.Prelude.{Some, None}
+use Rattle.ground.specs.declared.Refusal.TheVariants.{OutOfRange}
 use Rattle.ground.specs.Range.{within}
 use Rattle.ground.specs.Limits.{most_chambers, longest_run}
 use Rattle.ground.proofs.Tests.{by_test, never_both, both, first_of, second_of}
@@ -13,8 +15,8 @@ use Rattle.book.specs.Meaning.{Openable}
 module _ (chambers run : ℕ) where
   -- both numbers are in range, and a fresh book is opened; or they are not, and 4 comes with a book of zeros
   pub opened_either :
-      (Openable chambers run × (opened chambers run ≡ record { refusal = 0; book = fresh_book chambers run }))
-      ⊎ ((Openable chambers run → ⊥) × (opened chambers run ≡ record { refusal = 4; book = fresh_book 0 0 }))
+      (Openable chambers run × (opened chambers run ≡ record { refusal = None; book = fresh_book chambers run }))
+      ⊎ ((Openable chambers run → ⊥) × (opened chambers run ≡ record { refusal = Some OutOfRange; book = fresh_book 0 0 }))
   unfolding opened
   opened_either =
       let housed = within 1 most_chambers chambers in
@@ -33,8 +35,8 @@ module _ (chambers run : ℕ) where
         rw outside,
       ))
 
-  pub opened_within : Openable chambers run → opened chambers run ≡ record { refusal = 0; book = fresh_book chambers run }
+  pub opened_within : Openable chambers run → opened chambers run ≡ record { refusal = None; book = fresh_book chambers run }
   opened_within inside = ⊎_elim (λ p. p.1) (λ p. absurd (p.0 inside)) opened_either
 
-  pub opened_outside : (Openable chambers run → ⊥) → opened chambers run ≡ record { refusal = 4; book = fresh_book 0 0 }
+  pub opened_outside : (Openable chambers run → ⊥) → opened chambers run ≡ record { refusal = Some OutOfRange; book = fresh_book 0 0 }
   opened_outside out = ⊎_elim (λ p. absurd (out p.0)) (λ p. p.1) opened_either

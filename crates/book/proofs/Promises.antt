@@ -10,7 +10,7 @@ use contract.Lifetimes.{Lfts}
 use Rattle.ground.specs.Refusal.{Read, wrong, right}
 use Rattle.ground.specs.Outcome.{Injective, Single}
 use Rattle.ground.proofs.Outcome.{single_value}
-use Rattle.book.specs.Soundness.{fresh_book, opened}
+use Rattle.book.specs.Soundness.{fresh_book, number_told, opened}
 use Rattle.book.specs.Taking.{hold, decided, next_book, Word, yes, no, refused, Told, told, answer_of}
 use Rattle.book.specs.Meaning.{Sound, Openable, Fresh, Admitted, BookRefuses, BestChamber, NoChamber, AfterYes, AfterNo, RightAnswer}
 use Rattle.book.specs.History.{OrderHours, GivenOrder, OneAfterAnother, last_book, loads_kept, readies_taken, last_hour_of, Completes, BusyUntil, SourceRejects, LowestSourceChoice}
@@ -19,9 +19,10 @@ use Rattle.book.specs.declared.Opened.{Opened}
 use Rattle.book.specs.declared.Taken.{Taken}
 use Rattle.book.specs.declared.Answer.{Answer}
 use Rattle.book.specs.declared.Answer.TheVariants.{Yes, No, Refused}
+use Rattle.choice.specs.BestFit.{chamber_at}
 use Rattle.choice.specs.Meaning.{hour_for}
-use Rattle.choice.specs.declared.Choice.{Choice}
-use Rattle.choice.specs.declared.Choice.TheVariants.{Nothing, Chamber}
+use Rattle.std.specs.Prelude.{Option, Some, None}
+use Rattle.choice.specs.declared.Offer.{Offer}
 use Rattle.choice.proofs.Fitting.{right_only}
 use Rattle.book.proofs.Soundness.{fresh_book_lem, fresh_sound}
 use Rattle.book.proofs.Opening.{opened_either, opened_within, opened_outside}
@@ -47,10 +48,10 @@ pub told_refused : (number : ℕ) → told (Refused number) ≡ record { word = 
 told_refused number = refl
 
 -- and the answer to what is decided
-pub answer_of_choice : (chamber start : ℕ) → answer_of (right (Chamber chamber start)) ≡ Yes chamber start
+pub answer_of_choice : (chamber start : ℕ) → answer_of (right (chamber_at chamber start)) ≡ Yes chamber start
 answer_of_choice chamber start = refl
 
-pub answer_of_nothing : answer_of (right Nothing) ≡ No
+pub answer_of_nothing : answer_of (right None) ≡ No
 answer_of_nothing = refl
 
 pub answer_of_refusal : (number : ℕ) → answer_of (wrong number) ≡ Refused number
@@ -78,15 +79,15 @@ answer_told (Refused number) No same = absurd (omega (arith, same_place same))
 answer_told (Refused number) (Refused other) same = ap Refused (ap (λ answer. answer.refusal) same)
 
 -- what is decided may be read from its answer
-abbrev decision_of : Answer → Read Choice
-decision_of (Yes chamber start) = right (Chamber chamber start)
-decision_of No = right Nothing
+abbrev decision_of : Answer → Read (Option Offer)
+decision_of (Yes chamber start) = right (chamber_at chamber start)
+decision_of No = right None
 decision_of (Refused number) = wrong number
 
-decision_back : (decision : Read Choice) → decision_of (answer_of decision) ≡ decision
+decision_back : (decision : Read (Option Offer)) → decision_of (answer_of decision) ≡ decision
 decision_back (wrong number) = refl
-decision_back (right Nothing) = refl
-decision_back (right (Chamber chamber start)) = refl
+decision_back (right None) = refl
+decision_back (right (Some offer)) = refl
 
 -- "associated constants for 8, 512 and 999,999"
 pub limits_given : (κs : Lfts 0) (numbers : List ℕ) (after : _) → limits.Learnt κs tt numbers after → numbers ≡ 8 ∷ 512 ∷ 999_999 ∷ []
@@ -101,23 +102,23 @@ yes_named κs chamber start numbers after learnt = learnt
 -- Opening a book with these numbers, and whatever comes of it.
 module _ (κs : Lfts 0) (chambers run : ℕ) (outcome : Opened) (after : _) (learnt : opening.Learnt κs (chambers, (run, tt)) outcome after) where
   -- 1b: it is refused by 4 exactly when chambers is not 1 to 8 or run not 1 to 9,999
-  pub opening_refused : (outcome.refusal ≡ 4) ↔ (Openable chambers run → ⊥)
+  pub opening_refused : (number_told outcome.refusal ≡ 4) ↔ (Openable chambers run → ⊥)
   opening_refused =
       rw learnt (
-        λ e. ⊎_elim (λ p. absurd (omega (arith, ap (λ opened. opened.refusal) p.1))) (λ p. p.0) (opened_either chambers run),
-        λ out. ap (λ opened. opened.refusal) (opened_outside chambers run out),
+        λ e. ⊎_elim (λ p. absurd (omega (arith, ap (λ opened. number_told opened.refusal) p.1))) (λ p. p.0) (opened_either chambers run),
+        λ out. ap (λ opened. number_told opened.refusal) (opened_outside chambers run out),
       )
 
   -- 1c: and then the book has every field 0
-  pub opening_refused_zeros : outcome.refusal ≡ 4 → Fresh 0 0 outcome.book
+  pub opening_refused_zeros : number_told outcome.refusal ≡ 4 → Fresh 0 0 outcome.book
   opening_refused_zeros e = rw (learnt ∙ opened_outside chambers run (opening_refused.0 e)) (fresh_book_lem 0 0)
 
   -- else its number is 0, and the book is fresh, with these chambers and this run
-  pub opening_unrefused : (outcome.refusal ≡ 0) ↔ Openable chambers run
+  pub opening_unrefused : (number_told outcome.refusal ≡ 0) ↔ Openable chambers run
   opening_unrefused =
       rw learnt (
-        λ e. ⊎_elim (λ p. p.0) (λ p. absurd (omega (arith, ap (λ opened. opened.refusal) p.1))) (opened_either chambers run),
-        λ inside. ap (λ opened. opened.refusal) (opened_within chambers run inside),
+        λ e. ⊎_elim (λ p. p.0) (λ p. absurd (omega (arith, ap (λ opened. number_told opened.refusal) p.1))) (opened_either chambers run),
+        λ inside. ap (λ opened. number_told opened.refusal) (opened_within chambers run inside),
       )
 
   pub opening_fresh : Openable chambers run → Fresh chambers run outcome.book
@@ -144,12 +145,12 @@ hold_single κs book after = single_value (hold book)
 -- a book that is opened so is sound
 pub opened_fresh :
     (chambers run : ℕ) → Openable chambers run
-    → ((opened chambers run).refusal ≡ 0) × ((opened chambers run).book ≡ fresh_book chambers run) × Sound (opened chambers run).book
+    → (number_told (opened chambers run).refusal ≡ 0) × ((opened chambers run).book ≡ fresh_book chambers run) × Sound (opened chambers run).book
 opened_fresh chambers run inside = rw (opened_within chambers run inside) (refl, refl, fresh_sound chambers run inside)
 
 -- and where it cannot be opened so, the definition has 4 and every field 0
 pub opened_refused :
-    (chambers run : ℕ) → (Openable chambers run → ⊥) → ((opened chambers run).refusal ≡ 4) × Fresh 0 0 (opened chambers run).book
+    (chambers run : ℕ) → (Openable chambers run → ⊥) → (number_told (opened chambers run).refusal ≡ 4) × Fresh 0 0 (opened chambers run).book
 opened_refused chambers run out = rw (opened_outside chambers run out) (refl, fresh_book_lem 0 0)
 
 -- Any book, sound or not, an order with any hours, and whatever `take` admits: an answer and the next book.
@@ -158,7 +159,7 @@ module _ (κs : Lfts 0) (book : Book) (ready due : ℕ) (outcome : Taken) (after
   its_answer : outcome.answer ≡ answer_of (decided book ready due)
   its_answer = answer_told outcome.answer (answer_of (decided book ready due)) learnt.said
 
-  answer_exactly : (decision : Read Choice) → (outcome.answer ≡ answer_of decision) ↔ (decided book ready due ≡ decision)
+  answer_exactly : (decision : Read (Option Offer)) → (outcome.answer ≡ answer_of decision) ↔ (decided book ready due ≡ decision)
   answer_exactly decision = (
     λ e. sym (decision_back (decided book ready due)) ∙ ap decision_of (sym its_answer ∙ e) ∙ decision_back decision,
     λ e. its_answer ∙ ap answer_of e,
@@ -183,14 +184,14 @@ module _ (κs : Lfts 0) (book : Book) (ready due : ℕ) (outcome : Taken) (after
   pub take_yes :
       (chamber start : ℕ) → (outcome.answer ≡ Yes chamber start) ↔ (Admitted book ready due × BestChamber book ready due chamber start)
   take_yes chamber start =
-      let said = answer_exactly (right (Chamber chamber start)) in
+      let said = answer_exactly (right (chamber_at chamber start)) in
       let means = steps.yes_exactly book ready due chamber start in
       (λ e. means.0 (said.0 e), λ p. said.1 (means.1 p))
 
   -- 2b: a no exactly when nothing is wrong with it and no chamber fits
   pub take_no : (outcome.answer ≡ No) ↔ (Admitted book ready due × NoChamber book ready due)
   take_no =
-      let said = answer_exactly (right Nothing) in
+      let said = answer_exactly (right None) in
       let means = steps.no_exactly book ready due in
       (λ e. means.0 (said.0 e), λ p. said.1 (means.1 p))
 
@@ -298,10 +299,10 @@ module _ (chambers run : ℕ) (book : Book) (fresh : Fresh chambers run book) (g
 module _ (book : Book) (ready : ℕ) where
   pub next_of_choice :
       (chamber start : ℕ) → 1 ≤ chamber → chamber ≤ length book.free
-      → AfterYes book ready chamber start (next_book book ready (right (Chamber chamber start)))
+      → AfterYes book ready chamber start (next_book book ready (right (chamber_at chamber start)))
   next_of_choice = steps.yes_stored book ready
 
-  pub next_of_nothing : AfterNo book ready (next_book book ready (right Nothing))
+  pub next_of_nothing : AfterNo book ready (next_book book ready (right None))
   next_of_nothing = steps.no_counted book ready
 
   pub next_of_refusal : (number : ℕ) → next_book book ready (wrong number) ≡ book
@@ -329,10 +330,10 @@ module _ (book : Book) (ready due : ℕ) where
   refused_order_stays number wrongly = ap (next_book book ready) wrongly
 
   pub yes_exactly :
-      (chamber start : ℕ) → (decided book ready due ≡ right (Chamber chamber start)) ↔ (Admitted book ready due × BestChamber book ready due chamber start)
+      (chamber start : ℕ) → (decided book ready due ≡ right (chamber_at chamber start)) ↔ (Admitted book ready due × BestChamber book ready due chamber start)
   yes_exactly = steps.yes_exactly book ready due
 
-  pub no_exactly : (decided book ready due ≡ right Nothing) ↔ (Admitted book ready due × NoChamber book ready due)
+  pub no_exactly : (decided book ready due ≡ right None) ↔ (Admitted book ready due × NoChamber book ready due)
   no_exactly = steps.no_exactly book ready due
 
   -- the rule describes one chamber and one start
@@ -340,8 +341,9 @@ module _ (book : Book) (ready due : ℕ) where
       (chamber start other_chamber other_start : ℕ) → BestChamber book ready due chamber start
       → BestChamber book ready due other_chamber other_start → (chamber ≡ other_chamber) × (start ≡ other_start)
   best_only chamber start other_chamber other_start best other =
-      let one : Chamber chamber start ≡ Chamber other_chamber other_start = right_only ready due book.run book.free book.chambers _ _ best other in
-      (cc, cc)
+      let one : chamber_at chamber start ≡ chamber_at other_chamber other_start = right_only ready due book.run book.free book.chambers _ _ best other in
+      let same : record { chamber = chamber; start = start } ≡ record { chamber = other_chamber; start = other_start } = cc in
+      (ap (λ (offer : Offer). offer.chamber) same, ap (λ (offer : Offer). offer.start) same)
 
   -- the next book is what the paper says, and a sound book stays sound
   pub decided_right : RightAnswer book ready due (next_book book ready (decided book ready due)) (answer_of (decided book ready due))
@@ -351,13 +353,13 @@ module _ (book : Book) (ready due : ℕ) where
   stays_sound = steps.answer_sound book ready due _ (answer_of (decided book ready due)) decided_right
 
   -- a start is never before ready, nor later than due less run
-  pub start_in_time : (chamber start : ℕ) → decided book ready due ≡ right (Chamber chamber start) → (ready ≤ start) × (start + book.run ≤ due)
+  pub start_in_time : (chamber start : ℕ) → decided book ready due ≡ right (chamber_at chamber start) → (ready ≤ start) × (start + book.run ≤ due)
   start_in_time = steps.start_in_time book ready due
 
   -- an order due before ready plus run is a no and counts as taken
   pub short_order_is_a_no :
       Admitted book ready due → due < ready + book.run
-      → (decided book ready due ≡ right Nothing) × ((next_book book ready (decided book ready due)).taken ≡ book.taken + 1)
+      → (decided book ready due ≡ right None) × ((next_book book ready (decided book ready due)).taken ≡ book.taken + 1)
   short_order_is_a_no admitted short =
       let declined = steps.short_order_is_a_no book ready due admitted short in (declined, ap (λ decision. (next_book book ready decision).taken) declined)
 

@@ -15,24 +15,25 @@ use Rattle.choice.specs.BestFit.{best_fit}
 use Rattle.book.specs.Taking.{decided}
 use Rattle.book.specs.Meaning.{Sound, Admitted, BookRefuses, not_sound, ready_past_last, due_past_last, book_full, below_clock}
 use Rattle.book.specs.declared.Book.{Book}
-use Rattle.choice.specs.declared.Choice.{Choice}
+use Rattle.std.specs.Prelude.{Option}
+use Rattle.choice.specs.declared.Offer.{Offer}
 use Rattle.book.proofs.Soundness.{sound_facts, sound_from}
 
 module _ (book : Book) (ready due : ℕ) where
   -- what is left to check, from the last check to the first
-  abbrev chosen : Read Choice
+  abbrev chosen : Read (Option Offer)
   chosen = right (best_fit ready due book.run 1 (take book.chambers book.free))
 
-  abbrev from_turn : Read Choice
+  abbrev from_turn : Read (Option Offer)
   from_turn = check (leb book.clock ready) 5 >> chosen
 
-  abbrev from_room : Read Choice
+  abbrev from_room : Read (Option Offer)
   from_room = check (ltb book.taken most_orders) 6 >> from_turn
 
-  abbrev from_due : Read Choice
+  abbrev from_due : Read (Option Offer)
   from_due = check (leb due last_hour) 4 >> from_room
 
-  abbrev from_ready : Read Choice
+  abbrev from_ready : Read (Option Offer)
   from_ready = check (leb ready last_hour) 4 >> from_due
 
   in_order : decided book ready due ≡ (check (is_sound book) 8 >> from_ready)
@@ -102,7 +103,7 @@ module _ (book : Book) (ready due : ℕ) where
 
   -- and answered exactly when nothing is wrong, and then by the choice
   pub by_choice :
-      (choice : Choice)
+      (choice : Option Offer)
       → (decided book ready due ≡ right choice)
       ↔ (Admitted book ready due × (best_fit ready due book.run 1 (take book.chambers book.free) ≡ choice))
   by_choice choice = (

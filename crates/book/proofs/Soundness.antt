@@ -1,14 +1,13 @@
 -- Hours within a limit, and what it is for a book to be sound or fresh, as facts. Assumes nothing.
-use Prim.Native.Nat.{ℕ, zero, suc, ◌+◌, ◌-◌, ◌≤◌, ◌<◌}
+use Prim.Native.Nat.{ℕ, zero, suc, ◌+◌, ◌-◌, ◌≤◌}
 use mathlib.Core.Path.{◌≡◌, refl}
-use mathlib.Core.Bool.{Bool, true, false}
+use mathlib.Core.Bool.{Bool, true}
 use mathlib.Core.List.{List, [], ◌∷◌}
-use lib.ListN.{length, get_or, drop, drop_of_length-le, length-replicate}
-use lib.Seq.{drop-cons, get_or-drop}
+use lib.ListN.{get_or, drop, length-replicate}
+use lib.Seq.{get_or-drop}
 use lib.Dec.{leb}
-use native.Mathlib.Numerals.{add-one}
 use native.Mathlib.Omega.{arith}
-use borrow.Author.Tests.{leb-true, le-leb, lt-leb}
+use borrow.Author.Tests.{leb-true, le-leb}
 use Rattle.ground.specs.Limits.{most_chambers, longest_run}
 use Rattle.ground.proofs.Tests.{both, first_of, second_of}
 use Rattle.ground.proofs.Range.{within_from, within_low, within_high}
@@ -16,20 +15,6 @@ use Rattle.ground.proofs.Buffer.{zeros_at}
 use Rattle.book.specs.Soundness.{last_free_hour, all_up_to, all_met, soundness, is_sound, fresh_book}
 use Rattle.book.specs.Meaning.{Sound, Openable, Fresh}
 use Rattle.book.specs.declared.Book.{Book}
-
--- hours within a limit, one after another
-module _ (limit : ℕ) (hours : List ℕ) (at : ℕ) where
-  pub limit_holds : at < length hours → get_or hours at 0 ≤ limit → all_up_to limit (drop at hours) ≡ all_up_to limit (drop (at + 1) hours)
-  unfolding all_up_to
-  limit_holds inside holds = rw (drop-cons hours at 0 inside, le-leb _ _ holds, add-one)
-
-  pub limit_broken : at < length hours → limit < get_or hours at 0 → all_up_to limit (drop at hours) ≡ false
-  unfolding all_up_to
-  limit_broken inside broken = rw (drop-cons hours at 0 inside, lt-leb _ _ broken)
-
-  pub limit_end : length hours ≤ at → all_up_to limit (drop at hours) ≡ true
-  unfolding all_up_to
-  limit_end past = rw (drop_of_length-le hours past)
 
 -- none is above a limit where none is at its place, and back
 each_hour : (limit : ℕ) (hours : List ℕ) → all_up_to limit hours ≡ true → (place : ℕ) → get_or hours place 0 ≤ limit

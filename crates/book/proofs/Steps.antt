@@ -15,9 +15,10 @@ use Rattle.book.specs.Settling.{Sized}
 use Rattle.book.specs.declared.Book.{Book}
 use Rattle.book.specs.declared.Answer.{Answer}
 use Rattle.book.specs.declared.Answer.TheVariants.{Yes, No, Refused}
+use Rattle.choice.specs.BestFit.{chamber_at}
 use Rattle.choice.specs.Meaning.{RightChoice}
-use Rattle.choice.specs.declared.Choice.{Choice}
-use Rattle.choice.specs.declared.Choice.TheVariants.{Nothing, Chamber}
+use Rattle.std.specs.Prelude.{Option, Some, None}
+use Rattle.choice.specs.declared.Offer.{Offer}
 use Rattle.choice.proofs.Fitting.{right_exactly}
 use Rattle.book.proofs.Refusals.{by_first_fault, by_choice}
 
@@ -25,7 +26,7 @@ module _ (book : Book) (ready : ℕ) where
   -- what a yes does to the book, of a chamber that has a free hour
   pub yes_stored :
       (chamber start : ℕ) → 1 ≤ chamber → chamber ≤ length book.free
-      → AfterYes book ready chamber start (next_book book ready (right (Chamber chamber start)))
+      → AfterYes book ready chamber start (next_book book ready (right (chamber_at chamber start)))
   yes_stored chamber start numbered listed =
       let hours = book.free in
       record {
@@ -40,20 +41,20 @@ module _ (book : Book) (ready : ℕ) where
       }
 
   -- and what a no does
-  pub no_counted : AfterNo book ready (next_book book ready (right Nothing))
+  pub no_counted : AfterNo book ready (next_book book ready (right None))
   no_counted =
       record { clock_ready = refl; one_taken = refl; kept_stays = refl; chambers_stay = refl; run_stays = refl; free_stays = refl }
 
 module _ (book : Book) (ready due : ℕ) where
   -- the next book has as many free hours
-  pub next_sized : (decision : Read Choice) → Sized book → Sized (next_book book ready decision)
+  pub next_sized : (decision : Read (Option Offer)) → Sized book → Sized (next_book book ready decision)
   next_sized (wrong number) sized = sized
-  next_sized (right Nothing) sized = sized
-  next_sized (right (Chamber chamber start)) sized = length-set book.free (chamber - 1) (start + book.run) ∙ sized
+  next_sized (right None) sized = sized
+  next_sized (right (Some offer)) sized = length-set book.free (offer.chamber - 1) (offer.start + book.run) ∙ sized
 
   -- a choice is made exactly when nothing is wrong with the order and it is the right one
   pub choice_exactly :
-      (choice : Choice)
+      (choice : Option Offer)
       → (decided book ready due ≡ right choice) ↔ (Admitted book ready due × RightChoice ready due book.run book.free book.chambers choice)
   choice_exactly choice =
       let means = right_exactly ready due book.run book.free book.chambers choice in (
@@ -63,30 +64,30 @@ module _ (book : Book) (ready due : ℕ) where
 
   -- an order gets a chamber and a start exactly when nothing is wrong with it and they fit best
   pub yes_exactly :
-      (chamber start : ℕ) → (decided book ready due ≡ right (Chamber chamber start)) ↔ (Admitted book ready due × BestChamber book ready due chamber start)
-  yes_exactly chamber start = choice_exactly (Chamber chamber start)
+      (chamber start : ℕ) → (decided book ready due ≡ right (chamber_at chamber start)) ↔ (Admitted book ready due × BestChamber book ready due chamber start)
+  yes_exactly chamber start = choice_exactly (chamber_at chamber start)
 
   -- and a no exactly when nothing is wrong with it and no chamber fits
-  pub no_exactly : (decided book ready due ≡ right Nothing) ↔ (Admitted book ready due × NoChamber book ready due)
-  no_exactly = choice_exactly Nothing
+  pub no_exactly : (decided book ready due ≡ right None) ↔ (Admitted book ready due × NoChamber book ready due)
+  no_exactly = choice_exactly None
 
   -- whatever is decided, it is answered as the paper says
-  pub right_answer : (decision : Read Choice) → decided book ready due ≡ decision → RightAnswer book ready due (next_book book ready decision) (answer_of decision)
+  pub right_answer : (decision : Read (Option Offer)) → decided book ready due ≡ decision → RightAnswer book ready due (next_book book ready decision) (answer_of decision)
   right_answer (wrong number) e = ((by_first_fault book ready due number).0 e, refl)
-  right_answer (right Nothing) e = let known = no_exactly.0 e in (known.0, known.1, no_counted book ready)
-  right_answer (right (Chamber chamber start)) e =
-      let known = (yes_exactly chamber start).0 e in
+  right_answer (right None) e = let known = no_exactly.0 e in (known.0, known.1, no_counted book ready)
+  right_answer (right (Some offer)) e =
+      let known = (yes_exactly offer.chamber offer.start).0 e in
       let fitting = known.1.fitting in
-      (known.0, known.1, yes_stored book ready chamber start fitting.numbered.0 fitting.listed)
+      (known.0, known.1, yes_stored book ready offer.chamber offer.start fitting.numbered.0 fitting.listed)
 
   -- a start is never before ready, nor later than due less run
-  pub start_in_time : (chamber start : ℕ) → decided book ready due ≡ right (Chamber chamber start) → (ready ≤ start) × (start + book.run ≤ due)
+  pub start_in_time : (chamber start : ℕ) → decided book ready due ≡ right (chamber_at chamber start) → (ready ≤ start) × (start + book.run ≤ due)
   start_in_time chamber start e =
       let best = ((yes_exactly chamber start).0 e).1 in
       (omega (arith, best.started), omega (arith, best.started, best.fitting.in_time))
 
   -- an order due before ready plus run is a no, and counts as taken
-  pub short_order_is_a_no : Admitted book ready due → due < ready + book.run → decided book ready due ≡ right Nothing
+  pub short_order_is_a_no : Admitted book ready due → due < ready + book.run → decided book ready due ≡ right None
   short_order_is_a_no admitted short = no_exactly.1 (admitted, λ chamber fitting. omega (arith, fitting.in_time))
 
 -- an hour by its place, where one is stored and the others stay

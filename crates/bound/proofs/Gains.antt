@@ -6,8 +6,8 @@ use mathlib.Core.List.{List, [], ◌∷◌}
 use lib.ListN.{length, length-set}
 use native.Mathlib.Omega.{arith}
 use Rattle.book.specs.History.{OrderHours}
-use Rattle.choice.specs.declared.Choice.{Choice}
-use Rattle.choice.specs.declared.Choice.TheVariants.{Nothing, Chamber}
+use Rattle.std.specs.Prelude.{Option, Some, None}
+use Rattle.choice.specs.declared.Offer.{Offer}
 use Rattle.bound.specs.Plans.{InTurn, KeepsTo}
 use Rattle.bound.specs.Keeping.{choice_of, free_after}
 use Rattle.bound.proofs.Steps.{step, pre}
@@ -21,10 +21,10 @@ if_own (suc place) rest = 0
 
 -- what a load, of the order at a place and to start at an hour, gains by one answer: by a yes whose window has its hour one step, and by
 -- the yes to its own order the rest of the sum
-abbrev pub gain : ℕ → ℕ → List ℕ → Choice → ℕ → ℕ → ℕ
-gain m hold free Nothing place hour = 0
-gain m hold free (Chamber chamber start) place hour =
-    window start hold hour * step m (above hour free) + if_own place (pre m m - pre m (above hour free))
+abbrev pub gain : ℕ → ℕ → List ℕ → Option Offer → ℕ → ℕ → ℕ
+gain m hold free None place hour = 0
+gain m hold free (Some offer) place hour =
+    window offer.start hold hour * step m (above hour free) + if_own place (pre m m - pre m (above hour free))
 
 -- what it gains by all answers up to that to its own order
 unfoldable pub total : ℕ → ℕ → ℕ → List ℕ → List OrderHours → ℕ → ℕ → ℕ
@@ -34,9 +34,9 @@ total m run hold free (order ∷ orders) (suc place) hour =
     gain m hold free (choice_of run free order) (suc place) hour + total m run hold (free_after hold free (choice_of run free order)) orders place hour
 
 -- an answer leaves the number of chambers
-pub same_length : (hold : ℕ) (free : List ℕ) (choice : Choice) → length (free_after hold free choice) ≡ length free
-same_length hold free Nothing = refl
-same_length hold free (Chamber chamber start) = length-set free (chamber - 1) (start + hold)
+pub same_length : (hold : ℕ) (free : List ℕ) (choice : Option Offer) → length (free_after hold free choice) ≡ length free
+same_length hold free None = refl
+same_length hold free (Some offer) = length-set free (offer.chamber - 1) (offer.start + hold)
 
 -- no load of a list in turn starts before the clock
 clock_before :
@@ -57,24 +57,24 @@ pre_window m count (suc (suc more)) most = omega arith
 module _ (m run hold ready due hour : ℕ) (free : List ℕ) where
   -- before its own order is answered a load gains what the sum of steps moves
   early_gain :
-      (choice : Choice) (place : ℕ) → Counted ready due run 1 free choice → ready ≤ hour
+      (choice : Option Offer) (place : ℕ) → Counted ready due run 1 free choice → ready ≤ hour
       → pre m (above hour (free_after hold free choice)) ≡ pre m (above hour free) + gain m hold free choice (suc place) hour
-  early_gain Nothing place known early = omega arith
-  early_gain (Chamber chamber start) place known early =
+  early_gain None place known early = omega arith
+  early_gain (Some offer) place known early =
       rw (
-        above_kept ready due run hold hour free chamber start known early,
-        pre_window m (above hour free) (window start hold hour) (window_most start hold hour),
+        above_kept ready due run hold hour free offer.chamber offer.start known early,
+        pre_window m (above hour free) (window offer.start hold hour) (window_most offer.start hold hour),
       )
       (omega arith)
 
   -- with the answer to its own order the sum is whole
   own_gain :
-      (choice : Choice) → length free ≡ m → Counted ready due run 1 free choice → ready ≤ hour → hour + run ≤ due
+      (choice : Option Offer) → length free ≡ m → Counted ready due run 1 free choice → ready ≤ hour → hour + run ≤ due
       → pre m m ≤ pre m (above hour free) + gain m hold free choice zero hour
-  own_gain Nothing sized known early late =
+  own_gain None sized known early late =
       let all : above hour free ≡ m = omega (arith, known, unfit_above ready due run hour free early late, above_most hour free) in
       rw all (omega arith)
-  own_gain (Chamber chamber start) sized known early late = omega arith
+  own_gain (Some offer) sized known early late = omega arith
 
 -- from below: a load gains all that the sum of steps still lacks
 pub lower :
@@ -86,7 +86,7 @@ lower m run hold clock free (order ∷ orders) zero hour sized turn keeps =
     own_gain m run hold order.ready order.due hour free (choice_of run free order) sized (counted order.ready order.due run 1 free) keeps.0
     keeps.1
 lower m run hold clock free (order ∷ orders) (suc place) hour sized turn keeps =
-    let choice : Choice = choice_of run free order in
+    let choice : Option Offer = choice_of run free order in
     let now =
     early_gain m run hold order.ready order.due hour free choice place (counted order.ready order.due run 1 free)
     (clock_before order.ready run orders place hour turn.1 keeps)

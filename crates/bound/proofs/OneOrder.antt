@@ -8,9 +8,9 @@ use lib.Dec.{leb, ltb}
 use native.Mathlib.Omega.{arith}
 use borrow.Author.Tests.{ltb-true, ltb-false, leb-true, leb-false}
 use Rattle.ground.proofs.Tests.{by_test}
-use Rattle.choice.specs.BestFit.{offer, better, best_fit}
-use Rattle.choice.specs.declared.Choice.{Choice}
-use Rattle.choice.specs.declared.Choice.TheVariants.{Nothing, Chamber}
+use Rattle.choice.specs.BestFit.{chamber_at, offer, better, best_fit}
+use Rattle.std.specs.Prelude.{Option, Some, None}
+use Rattle.choice.specs.declared.Offer.{Offer}
 use Rattle.bound.specs.Keeping.{free_after}
 use Rattle.bound.proofs.Counting.{above, unfit, window, above_most, above_set}
 
@@ -23,18 +23,18 @@ pub record CountedYes (ready due run first : ℕ) (free : List ℕ) (chamber sta
   pub taken_unfit : (hour : ℕ) → start ≤ hour → above hour free ≤ unfit ready due run free
 
 -- what is known of an answer
-abbrev pub Counted : ℕ → ℕ → ℕ → ℕ → List ℕ → Choice → Type 0
-Counted ready due run first free Nothing = unfit ready due run free ≡ length free
-Counted ready due run first free (Chamber chamber start) = CountedYes ready due run first free chamber start
+abbrev pub Counted : ℕ → ℕ → ℕ → ℕ → List ℕ → Option Offer → Type 0
+Counted ready due run first free None = unfit ready due run free ≡ length free
+Counted ready due run first free (Some offer) = CountedYes ready due run first free offer.chamber offer.start
 
 module _ (ready due run first free : ℕ) (others : List ℕ) where
   -- the first chamber does not fit: the answer is that of the others
   by_others :
-      (choice : Choice) → due < max free ready + run → Counted ready due run (suc first) others choice → Counted ready due run first (free ∷ others) choice
+      (choice : Option Offer) → due < max free ready + run → Counted ready due run (suc first) others choice → Counted ready due run first (free ∷ others) choice
   unfolding unfit above
-  by_others Nothing late known = omega arith
-  by_others (Chamber chamber start) late known =
-      let less : chamber - first ≡ suc (chamber - suc first) = omega (arith, known.least) in
+  by_others None late known = omega arith
+  by_others (Some offer) late known =
+      let less : offer.chamber - first ≡ suc (offer.chamber - suc first) = omega (arith, known.least) in
       record {
         least = omega (arith, known.least);
         most = omega (arith, known.most);
@@ -76,19 +76,19 @@ module _ (ready due run first free : ℕ) (others : List ℕ) where
 
   -- the first chamber fits: it or a later start among the others is taken
   by_first :
-      (choice : Choice) → max free ready + run ≤ due → Counted ready due run (suc first) others choice
-      → Counted ready due run first (free ∷ others) (better (Chamber first (max free ready)) choice)
-  by_first Nothing early known = first_kept early (omega arith) (λ hour from. omega (arith, above_most hour others))
-  by_first (Chamber chamber start) early known =
-      by_test (ltb (max free ready) start)
-      (λ test. rw test (other_kept chamber start early (ltb-true (max free ready) start test) known))
+      (choice : Option Offer) → max free ready + run ≤ due → Counted ready due run (suc first) others choice
+      → Counted ready due run first (free ∷ others) (better (chamber_at first (max free ready)) choice)
+  by_first None early known = first_kept early (omega arith) (λ hour from. omega (arith, above_most hour others))
+  by_first (Some offer) early known =
+      by_test (ltb (max free ready) offer.start)
+      (λ test. rw test (other_kept offer.chamber offer.start early (ltb-true (max free ready) offer.start test) known))
       (λ test.
-      let no_later : start ≤ max free ready = ltb-false (max free ready) start test in
+      let no_later : offer.start ≤ max free ready = ltb-false (max free ready) offer.start test in
       rw test (first_kept early (omega (arith, known.some_fits)) (λ hour from. known.taken_unfit hour (omega arith))))
 
   -- one chamber and the others
   by_both :
-      (choice : Choice) → Counted ready due run (suc first) others choice
+      (choice : Option Offer) → Counted ready due run (suc first) others choice
       → Counted ready due run first (free ∷ others) (better (offer ready due run first free) choice)
   unfolding offer
   by_both choice known =
@@ -106,6 +106,6 @@ counted ready due run first (free ∷ others) =
 -- a yes changes the count of those taken past an hour from ready on as its window says
 pub above_kept :
     (ready due run hold hour : ℕ) (free : List ℕ) (chamber start : ℕ) → CountedYes ready due run 1 free chamber start → ready ≤ hour
-    → above hour (free_after hold free (Chamber chamber start)) ≡ above hour free + window start hold hour
+    → above hour (free_after hold free (chamber_at chamber start)) ≡ above hour free + window start hold hour
 above_kept ready due run hold hour free chamber start known early =
     rw known.started (above_set ready hold hour (chamber - 1) free early (omega (arith, known.least, known.most)))

@@ -9,9 +9,10 @@ use native.Mathlib.Nat.{mul-le-mul_left, mul-le-mul_right}
 use native.Mathlib.Omega.{arith}
 use borrow.Author.Tests.{leb-true, leb-false}
 use Rattle.ground.proofs.Tests.{by_test}
+use Rattle.choice.specs.BestFit.{chamber_at}
 use Rattle.book.specs.History.{OrderHours}
-use Rattle.choice.specs.declared.Choice.{Choice}
-use Rattle.choice.specs.declared.Choice.TheVariants.{Nothing, Chamber}
+use Rattle.std.specs.Prelude.{Option, Some, None}
+use Rattle.choice.specs.declared.Offer.{Offer}
 use Rattle.bound.specs.Plans.{Lengths, PlanLoad, KeepsTo, GoodLoad, SeparateFrom, GoodPlan}
 use Rattle.bound.specs.Keeping.{choice_of, free_after, kept_by, kept_of}
 use Rattle.bound.proofs.Steps.{weight, step, pre}
@@ -23,7 +24,7 @@ use Rattle.bound.proofs.Gains.{if_own, gain, total, same_length}
 use Rattle.bound.proofs.Later.{load_at, moved, later, good_later}
 
 -- what a load gains by one answer
-abbrev gain_of : ℕ → ℕ → List ℕ → Choice → PlanLoad → ℕ
+abbrev gain_of : ℕ → ℕ → List ℕ → Option Offer → PlanLoad → ℕ
 gain_of m hold free choice load = gain m hold free choice load.order load.start
 
 -- what a load gains by all answers up to that to its own order
@@ -57,7 +58,7 @@ none_own m lengths free load (other ∷ loads) own separate =
     refl
 
 -- by a no all loads gain nothing
-no_gains : (m hold : ℕ) (free : List ℕ) (loads : List PlanLoad) → sum (gain_of m hold free Nothing) loads ≡ 0
+no_gains : (m hold : ℕ) (free : List ℕ) (loads : List PlanLoad) → sum (gain_of m hold free None) loads ≡ 0
 unfolding sum
 no_gains m hold free [] = refl
 no_gains m hold free (load ∷ loads) = rw (no_gains m hold free loads) refl
@@ -115,7 +116,7 @@ module _ (m : ℕ) (lengths : Lengths) (free : List ℕ) (order : OrderHours) wh
   -- by a yes all loads gain a step for each in its window, and what the load of the order itself gains
   gains_parted :
       (chamber start : ℕ) (loads : List PlanLoad) → length free ≡ m → CountedYes order.ready order.due lengths.run 1 free chamber start
-      → sum (gain_of m lengths.hold free (Chamber chamber start)) loads
+      → sum (gain_of m lengths.hold free (chamber_at chamber start)) loads
       ≤ sum (in_window start lengths) loads * step m (unfit_of lengths.run free order) + sum (own_of m free) loads
   unfolding sum
   gains_parted chamber start [] sized known = omega arith
@@ -126,12 +127,12 @@ module _ (m : ℕ) (lengths : Lengths) (free : List ℕ) (order : OrderHours) wh
 
   -- by one answer all loads gain at most the last weight if it is a yes, and nothing if it is a no
   one_answer :
-      (choice : Choice) (orders : List OrderHours) (loads : List PlanLoad) → length free ≡ m → Counted order.ready order.due lengths.run 1 free choice
+      (choice : Option Offer) (orders : List OrderHours) (loads : List PlanLoad) → length free ≡ m → Counted order.ready order.due lengths.run 1 free choice
       → GoodPlan m lengths (order ∷ orders) loads → sum (gain_of m lengths.hold free choice) loads ≤ weight m m * kept_by choice
-  one_answer Nothing orders loads sized known good = omega (arith, no_gains m lengths.hold free loads)
-  one_answer (Chamber chamber start) orders loads sized known good =
-      let parted = gains_parted chamber start loads sized known in
-      let windows = mul-le-mul_right (step m (unfit_of lengths.run free order)) (few_in_window start lengths m (order ∷ orders) loads good) in
+  one_answer None orders loads sized known good = omega (arith, no_gains m lengths.hold free loads)
+  one_answer (Some offer) orders loads sized known good =
+      let parted = gains_parted offer.chamber offer.start loads sized known in
+      let windows = mul-le-mul_right (step m (unfit_of lengths.run free order)) (few_in_window offer.start lengths m (order ∷ orders) loads good) in
       let own = own_most orders loads good in
       let together = steps_and_rest m (unfit_of lengths.run free order) (omega (arith, known.some_fits)) in
       omega arith
@@ -173,7 +174,7 @@ pub upper :
 unfolding kept_of
 upper m lengths free [] loads sized good = omega (arith, no_totals m lengths free loads)
 upper m lengths free (order ∷ orders) loads sized good =
-    let choice : Choice = choice_of lengths.run free order in
+    let choice : Option Offer = choice_of lengths.run free order in
     let parted = totals_parted m lengths free order orders loads in
     let now = one_answer m lengths free order choice orders loads sized (counted order.ready order.due lengths.run 1 free) good in
     let next =

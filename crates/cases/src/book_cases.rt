@@ -6,7 +6,7 @@ use book::{Answer, Book};
 
 pub(crate) fn open(chambers: u32, run: u32) {
     let opened = Book::open(chambers, run);
-    results::numbers(&[opened.refusal]);
+    results::numbers(&[opened.refusal.map_or(0, |refusal| refusal.number())]);
     held(opened.book);
 }
 

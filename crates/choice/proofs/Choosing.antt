@@ -1,28 +1,29 @@
 -- Laws of the choice among chambers: one after another from the left. Assumes nothing.
-use Prim.Native.Nat.{ℕ, suc, ◌+◌, ◌≤◌, ◌<◌}
-use mathlib.Core.Path.{◌≡◌, refl, sym}
-use mathlib.Core.List.{List}
+use Prim.Native.Nat.{ℕ, zero, suc, ◌+◌, ◌≤◌, ◌<◌}
+use mathlib.Core.Path.{◌≡◌, refl, sym, ap, ◌∙◌}
+use mathlib.Core.List.{List, [], ◌∷◌}
 use lib.ListN.{length, get_or, take, drop, length-take, drop_of_length-le}
 use lib.Seq.{drop-cons, get_or-take}
 use lib.Dec.{ltb}
 use native.Mathlib.Numerals.{add-one}
 use native.Mathlib.Omega.{arith}
 use borrow.Author.Tests.{ltb-true, ltb-false, lt-ltb, le-ltb}
+use Rattle.std.specs.Prelude.{Option, Some, None}
+use Rattle.std.specs.List.{reduce, fold, filter_map, cons_option, zip, range_with_len}
 use Rattle.ground.proofs.Tests.{by_test}
-use Rattle.choice.specs.BestFit.{offer, better, best_fit}
-use Rattle.choice.specs.declared.Choice.{Choice}
-use Rattle.choice.specs.declared.Choice.TheVariants.{Nothing, Chamber}
+use Rattle.choice.specs.BestFit.{offer, fuller, better, best_fit}
+use Rattle.choice.specs.declared.Offer.{Offer}
 
-pub better_nothing : (choice : Choice) → better choice Nothing ≡ choice
-better_nothing Nothing = refl
-better_nothing (Chamber chamber start) = refl
+pub better_nothing : (choice : Option Offer) → better choice None ≡ choice
+better_nothing None = refl
+better_nothing (Some one) = refl
 
 -- it does not matter which two are compared first
-better_assoc : (one two three : Choice) → better (better one two) three ≡ better one (better two three)
-better_assoc Nothing two three = refl
-better_assoc (Chamber c s) Nothing three = refl
-better_assoc (Chamber c s) (Chamber d t) Nothing = better_nothing _
-better_assoc (Chamber c s) (Chamber d t) (Chamber e u) =
+fuller_assoc : (one two three : Offer) → fuller (fuller one two) three ≡ fuller one (fuller two three)
+fuller_assoc one two three =
+    let s = one.start in
+    let t = two.start in
+    let u = three.start in
     by_test (ltb s t)
     (λ st.
     by_test (ltb t u)
@@ -33,7 +34,39 @@ better_assoc (Chamber c s) (Chamber d t) (Chamber e u) =
     (λ tu. simp (st, tu))
     (λ tu. let l : u ≤ s = omega (arith, ltb-false s t st, ltb-false t u tu) in simp (st, tu, le-ltb s u l)))
 
-module _ (ready due run chamber : ℕ) (choice : Choice) (hours : List ℕ) (count at : ℕ) where
+better_assoc : (one two three : Option Offer) → better (better one two) three ≡ better one (better two three)
+better_assoc None two three = refl
+better_assoc (Some one) None three = refl
+better_assoc (Some one) (Some two) None = refl
+better_assoc (Some one) (Some two) (Some three) = ap Some (fuller_assoc one two three)
+
+-- the best of several offers is the better of the first and of the best of the others
+fullest : (one two : Offer) (offers : List Offer) → fold fuller (fuller one two) offers ≡ fuller one (fold fuller two offers)
+fullest one two [] = refl
+fullest one two (three ∷ offers) = rw (fuller_assoc one two three) (fullest one (fuller two three) offers)
+
+first_offer : (first : Option Offer) (offers : List Offer) → reduce fuller (cons_option first offers) ≡ better first (reduce fuller offers)
+first_offer None offers = refl
+first_offer (Some one) [] = refl
+first_offer (Some one) (two ∷ offers) = ap Some (fullest one two offers)
+
+module _ (ready due run : ℕ) where
+  -- what a chamber with its free hour offers
+  abbrev pub its_offer : ℕ × ℕ → Option Offer
+  its_offer numbered = offer ready due run numbered.0 numbered.1
+
+  -- so the best of what chambers offer is the choice among them
+  pub best_offer :
+      (first count : ℕ) (hours : List ℕ)
+      → reduce fuller (filter_map its_offer (zip (range_with_len first count) hours)) ≡ best_fit ready due run first (take count hours)
+  unfolding best_fit
+  best_offer first zero hours = refl
+  best_offer first (suc count) [] = refl
+  best_offer first (suc count) (free ∷ others) =
+      first_offer (offer ready due run first free) (filter_map its_offer (zip (range_with_len (first + 1) count) others))
+      ∙ ap (better (offer ready due run first free)) (rw add-one (best_offer (suc first) count others))
+
+module _ (ready due run chamber : ℕ) (choice : Option Offer) (hours : List ℕ) (count at : ℕ) where
   -- one chamber further
   pub choice_step :
       at < count → at < length hours

@@ -9,23 +9,23 @@ use lib.Seq.{take-length}
 use lib.Dec.{leb, ltb}
 use native.Mathlib.Omega.{arith}
 use borrow.Author.Tests.{ltb-true, ltb-false, leb-true, leb-false}
+use Rattle.std.specs.Prelude.{Option, Some, None}
 use Rattle.ground.proofs.Tests.{by_test}
-use Rattle.choice.specs.BestFit.{offer, better, best_fit}
+use Rattle.choice.specs.BestFit.{chamber_at, offer, better, best_fit}
 use Rattle.choice.specs.Meaning.{hour_for, Fits, BestFitting, RightChoice}
-use Rattle.choice.specs.declared.Choice.{Choice}
-use Rattle.choice.specs.declared.Choice.TheVariants.{Nothing, Chamber}
+use Rattle.choice.specs.declared.Offer.{Offer}
 use Rattle.choice.proofs.Choosing.{better_nothing, choice_step, choice_end}
 
 module _ (ready due run : ℕ) (hours : List ℕ) where
   -- where the same chambers fit the same choice is right
   same_right :
       (one other : ℕ) → ((chamber : ℕ) → Fits ready due run hours one chamber → Fits ready due run hours other chamber)
-      → ((chamber : ℕ) → Fits ready due run hours other chamber → Fits ready due run hours one chamber) → (choice : Choice)
+      → ((chamber : ℕ) → Fits ready due run hours other chamber → Fits ready due run hours one chamber) → (choice : Option Offer)
       → RightChoice ready due run hours one choice → RightChoice ready due run hours other choice
-  same_right one other to from Nothing none = λ chamber fits. none chamber (from chamber fits)
-  same_right one other to from (Chamber chamber start) best =
+  same_right one other to from None none = λ chamber fits. none chamber (from chamber fits)
+  same_right one other to from (Some offer) best =
       record {
-        fitting = to chamber best.fitting;
+        fitting = to offer.chamber best.fitting;
         started = best.started;
         largest = λ each fits. best.largest each (from each fits);
         lowest = λ each fits. best.lowest each (from each fits);
@@ -61,16 +61,16 @@ module _ (ready due run : ℕ) (hours : List ℕ) where
         }
 
     -- and else the best before it stays the best
-    right_last : hour + run ≤ due → (choice : Choice) → RightChoice ready due run hours count choice → RightChoice ready due run hours (suc count) (better choice (Chamber (suc count) hour))
-    right_last in_time Nothing none = last_best in_time (λ other fits. absurd (none other fits))
-    right_last in_time (Chamber chamber start) best =
-        by_test (ltb start hour)
-        (λ e. rw e (last_best in_time (λ other fits. omega (arith, best.largest other fits, ltb-true start hour e))))
-        (λ e. rw e (stays (ltb-false start hour e)))
+    right_last : hour + run ≤ due → (choice : Option Offer) → RightChoice ready due run hours count choice → RightChoice ready due run hours (suc count) (better choice (chamber_at (suc count) hour))
+    right_last in_time None none = last_best in_time (λ other fits. absurd (none other fits))
+    right_last in_time (Some offer) best =
+        by_test (ltb offer.start hour)
+        (λ e. rw e (last_best in_time (λ other fits. omega (arith, best.largest other fits, ltb-true offer.start hour e))))
+        (λ e. rw e (stays (ltb-false offer.start hour e)))
       where
-        stays : hour ≤ start → BestFitting ready due run hours (suc count) chamber start
+        stays : hour ≤ offer.start → BestFitting ready due run hours (suc count) offer.chamber offer.start
         stays late = record {
-          fitting = more_fits chamber best.fitting;
+          fitting = more_fits offer.chamber best.fitting;
           started = best.started;
           largest = λ other fits. last_or_before other fits (best.largest other) (λ last. rw last late);
           lowest = λ other fits equal.
@@ -79,7 +79,7 @@ module _ (ready due run : ℕ) (hours : List ℕ) where
 
     -- so the better of the choice before it and what it offers is right
     right_more :
-        (choice : Choice) → RightChoice ready due run hours count choice
+        (choice : Option Offer) → RightChoice ready due run hours count choice
         → RightChoice ready due run hours (count + 1) (better choice (offer ready due run (count + 1) (get_or hours count 0)))
     unfolding offer
     right_more choice right =
@@ -100,7 +100,7 @@ module _ (ready due run : ℕ) (hours : List ℕ) where
 
   -- the choice so far, and the best of what is left
   right_from :
-      (count left at : ℕ) (choice : Choice) → at + left ≡ length (take count hours) → RightChoice ready due run hours at choice
+      (count left at : ℕ) (choice : Option Offer) → at + left ≡ length (take count hours) → RightChoice ready due run hours at choice
       → RightChoice ready due run hours (length (take count hours)) (better choice (best_fit ready due run (at + 1) (drop at (take count hours))))
   right_from count zero at choice all right =
       let end : at ≡ length (take count hours) = omega arith in
@@ -116,7 +116,7 @@ module _ (ready due run : ℕ) (hours : List ℕ) (count : ℕ) where
   pub best_right : RightChoice ready due run hours count (best_fit ready due run 1 (take count hours))
   best_right =
       same_right ready due run hours (length (take count hours)) count fewer all (best_fit ready due run 1 (take count hours))
-      (right_from ready due run hours count (length (take count hours)) 0 Nothing (omega arith) (λ chamber fits. omega (arith, fits.numbered)))
+      (right_from ready due run hours count (length (take count hours)) 0 None (omega arith) (λ chamber fits. omega (arith, fits.numbered)))
     where
       fewer : (chamber : ℕ) → Fits ready due run hours (length (take count hours)) chamber → Fits ready due run hours count chamber
       fewer chamber fits =
@@ -132,21 +132,21 @@ module _ (ready due run : ℕ) (hours : List ℕ) (count : ℕ) where
           }
 
   -- and one choice is right
-  pub right_only : (one other : Choice) → RightChoice ready due run hours count one → RightChoice ready due run hours count other → one ≡ other
-  right_only Nothing Nothing none best = refl
-  right_only Nothing (Chamber chamber start) none best = absurd (none chamber best.fitting)
-  right_only (Chamber chamber start) Nothing best none = absurd (none chamber best.fitting)
-  right_only (Chamber chamber start) (Chamber other_chamber other_start) best other =
-      let least : start ≤ other_start = omega (arith, best.started, other.largest chamber best.fitting) in
-      let most : other_start ≤ start = omega (arith, other.started, best.largest other_chamber other.fitting) in
-      let same : start ≡ other_start = omega arith in
-      let low : chamber ≤ other_chamber = best.lowest other_chamber other.fitting (omega (arith, other.started)) in
-      let high : other_chamber ≤ chamber = other.lowest chamber best.fitting (omega (arith, best.started)) in
-      let alike : chamber ≡ other_chamber = omega arith in
-      rw (same, alike)
+  pub right_only : (one other : Option Offer) → RightChoice ready due run hours count one → RightChoice ready due run hours count other → one ≡ other
+  right_only None None none best = refl
+  right_only None (Some offer) none best = absurd (none offer.chamber best.fitting)
+  right_only (Some offer) None best none = absurd (none offer.chamber best.fitting)
+  right_only (Some one) (Some other) best its_best =
+      let least : one.start ≤ other.start = omega (arith, best.started, its_best.largest one.chamber best.fitting) in
+      let most : other.start ≤ one.start = omega (arith, its_best.started, best.largest other.chamber its_best.fitting) in
+      let start : one.start ≡ other.start = omega arith in
+      let low : one.chamber ≤ other.chamber = best.lowest other.chamber its_best.fitting (omega (arith, its_best.started)) in
+      let high : other.chamber ≤ one.chamber = its_best.lowest one.chamber best.fitting (omega (arith, best.started)) in
+      let chamber : one.chamber ≡ other.chamber = omega arith in
+      λ i. Some (record { chamber = chamber i; start = start i })
 
   -- so a choice is what the rule describes exactly where it is the computed one
-  pub right_exactly : (choice : Choice) → (best_fit ready due run 1 (take count hours) ≡ choice) ↔ RightChoice ready due run hours count choice
+  pub right_exactly : (choice : Option Offer) → (best_fit ready due run 1 (take count hours) ≡ choice) ↔ RightChoice ready due run hours count choice
   right_exactly choice = (λ chosen. rw chosen at best_right, λ right. right_only (best_fit ready due run 1 (take count hours)) choice best_right right)
 
 -- a chosen chamber is one of those listed, and its load ends in time
@@ -155,16 +155,16 @@ pub record Listed (due run : ℕ) (hours : List ℕ) (chamber start : ℕ) : Typ
   pub most : chamber ≤ length hours
   pub in_time : start + run ≤ due
 
-abbrev pub Chosen : ℕ → ℕ → List ℕ → Choice → Type 0
-Chosen due run hours Nothing = Unit {0}
-Chosen due run hours (Chamber chamber start) = Listed due run hours chamber start
+abbrev pub Chosen : ℕ → ℕ → List ℕ → Option Offer → Type 0
+Chosen due run hours None = Unit {0}
+Chosen due run hours (Some offer) = Listed due run hours offer.chamber offer.start
 
 pub chosen : (ready due run : ℕ) (hours : List ℕ) → Chosen due run hours (best_fit ready due run 1 hours)
 chosen ready due run hours =
     listed (best_fit ready due run 1 hours)
     (rw (take-length hours) at (best_right ready due run hours (length hours)))
   where
-    listed : (choice : Choice) → RightChoice ready due run hours (length hours) choice → Chosen due run hours choice
-    listed Nothing none = tt
-    listed (Chamber chamber start) best =
+    listed : (choice : Option Offer) → RightChoice ready due run hours (length hours) choice → Chosen due run hours choice
+    listed None none = tt
+    listed (Some offer) best =
         record { least = best.fitting.numbered.0; most = best.fitting.listed; in_time = omega (arith, best.started, best.fitting.in_time) }

@@ -1,4 +1,3 @@
 -- What the contracts of this room cite, and what they are proved to mean.
 pub mod BestFit
 pub mod Meaning
-pub mod Steps

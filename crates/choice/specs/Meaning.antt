@@ -1,8 +1,7 @@
 -- What it means that a chamber is the one that the rule describes, for any number of chambers with any free hours: steps 1 to 4 of the
 -- paper. The first chamber is number 1, and its free hour stands first. The computing definition is proved to be this. Assumes nothing.
-use Rattle.std.specs.Prelude.{ℕ, ◌+◌, ◌-◌, max, ◌≤◌, ◌≡◌, List, length, get_or}
-use Rattle.choice.specs.declared.Choice.{Choice}
-use Rattle.choice.specs.declared.Choice.TheVariants.{Nothing, Chamber}
+use Rattle.std.specs.Prelude.{ℕ, ◌+◌, ◌-◌, max, ◌≤◌, ◌≡◌, Option, Some, None, List, length, get_or}
+use Rattle.choice.specs.declared.Offer.{Offer}
 
 -- step 1: "For each chamber take the later of its free hour and r"
 abbrev pub hour_for : List ℕ → ℕ → ℕ → ℕ
@@ -27,6 +26,6 @@ abbrev pub NoneFits : ℕ → ℕ → ℕ → List ℕ → ℕ → Type 0
 NoneFits ready due run hours count = (chamber : ℕ) → Fits ready due run hours count chamber → ⊥
 
 -- a choice is right: the chamber that fits best with its start, or nothing where none fits
-abbrev pub RightChoice : ℕ → ℕ → ℕ → List ℕ → ℕ → Choice → Type 0
-RightChoice ready due run hours count Nothing = NoneFits ready due run hours count
-RightChoice ready due run hours count (Chamber chamber start) = BestFitting ready due run hours count chamber start
+abbrev pub RightChoice : ℕ → ℕ → ℕ → List ℕ → ℕ → Option Offer → Type 0
+RightChoice ready due run hours count None = NoneFits ready due run hours count
+RightChoice ready due run hours count (Some offer) = BestFitting ready due run hours count offer.chamber offer.start

@@ -12,11 +12,12 @@ use Rattle.ground.specs.Limits.{last_hour}
 use Rattle.ground.proofs.Tests.{by_test}
 use Rattle.lines.specs.declared.Order.{Order}
 use Rattle.lines.specs.declared.Load.{Load}
+use Rattle.choice.specs.BestFit.{chamber_at}
 use Rattle.book.specs.Taking.{hold, decided, next_book}
 use Rattle.book.specs.Settling.{Sized}
 use Rattle.book.specs.declared.Book.{Book}
-use Rattle.choice.specs.declared.Choice.{Choice}
-use Rattle.choice.specs.declared.Choice.TheVariants.{Nothing, Chamber}
+use Rattle.std.specs.Prelude.{Option, Some, None}
+use Rattle.choice.specs.declared.Offer.{Offer}
 use Rattle.book.specs.declared.Answer.{Answer}
 use Rattle.book.specs.declared.Answer.TheVariants.{Yes, No, Refused}
 use Rattle.book.proofs.Steps.{yes_exactly}
@@ -57,38 +58,39 @@ pub record GivenLoads (line : ℕ) (book : Book) (orders : List Order) (loads : 
 -- An order that is given to a book, and the orders behind it.
 module _ (line : ℕ) (book : Book) (sized : Sized book) (order : Order) (orders : List Order) where
   -- it is decided so
-  abbrev pub Decided : Read Choice → Type 0
+  abbrev pub Decided : Read (Option Offer) → Type 0
   Decided choice = decided book order.ready order.due ≡ choice
 
   -- and then the next book is this
-  abbrev pub next : Read Choice → Book
+  abbrev pub next : Read (Option Offer) → Book
   next choice = next_book book order.ready choice
 
   -- a yes is to a chamber that has a free hour
-  housed : (chamber start : ℕ) → Decided (right (Chamber chamber start)) → chamber - 1 < length book.free
+  housed : (chamber start : ℕ) → Decided (right (chamber_at chamber start)) → chamber - 1 < length book.free
   housed chamber start decision =
       let known = (yes_exactly book order.ready order.due chamber start).0 decision in
       omega (arith, known.1.fitting.numbered, known.0.sound.chambers_range)
 
   -- no free hour falls
-  hours_rise : (choice : Read Choice) → Decided choice → (place : ℕ) → get_or book.free place 0 ≤ get_or (next choice).free place 0
+  hours_rise : (choice : Read (Option Offer)) → Decided choice → (place : ℕ) → get_or book.free place 0 ≤ get_or (next choice).free place 0
   hours_rise (wrong number) decision place = omega arith
-  hours_rise (right Nothing) decision place = omega arith
-  hours_rise (right (Chamber chamber start)) decision place =
-      by_test (eqb place (chamber - 1))
+  hours_rise (right None) decision place = omega arith
+  hours_rise (right (Some offer)) decision place =
+      let its_own = offer.chamber - 1 in
+      by_test (eqb place its_own)
       (λ same.
-      rw (eqb-true place (chamber - 1) same, get_or-set_same book.free (chamber - 1) (start + hold book) 0 (housed chamber start decision))
-      (omega (arith, ((yes_exactly book order.ready order.due chamber start).0 decision).1.started)))
-      (λ other. rw (get_or-set_other book.free (chamber - 1) place (start + hold book) 0 (eqb-false place (chamber - 1) other)) (omega arith))
+      rw (eqb-true place its_own same, get_or-set_same book.free its_own (offer.start + hold book) 0 (housed offer.chamber offer.start decision))
+      (omega (arith, ((yes_exactly book order.ready order.due offer.chamber offer.start).0 decision).1.started)))
+      (λ other. rw (get_or-set_other book.free its_own place (offer.start + hold book) 0 (eqb-false place its_own other)) (omega arith))
 
   -- the number of chambers and the run stay
-  numbers_stay : (choice : Read Choice) → ((next choice).chambers ≡ book.chambers) × ((next choice).run ≡ book.run)
+  numbers_stay : (choice : Read (Option Offer)) → ((next choice).chambers ≡ book.chambers) × ((next choice).run ≡ book.run)
   numbers_stay (wrong number) = (refl, refl)
-  numbers_stay (right Nothing) = (refl, refl)
-  numbers_stay (right (Chamber chamber start)) = (refl, refl)
+  numbers_stay (right None) = (refl, refl)
+  numbers_stay (right (Some offer)) = (refl, refl)
 
   -- so a load that is given from the next book on is given from this one on
-  pub given_later : (choice : Read Choice) → Decided choice → (load : Load) → Given (suc line) (next choice) orders load → Given line book (order ∷ orders) load
+  pub given_later : (choice : Read (Option Offer)) → Decided choice → (load : Load) → Given (suc line) (next choice) orders load → Given line book (order ∷ orders) load
   given_later choice decision load given =
       let stay = numbers_stay choice in
       record {
@@ -106,7 +108,7 @@ module _ (line : ℕ) (book : Book) (sized : Sized book) (order : Order) (orders
 
   -- and so is the load of its own yes
   pub given_now :
-      (chamber start : ℕ) → Decided (right (Chamber chamber start))
+      (chamber start : ℕ) → Decided (right (chamber_at chamber start))
       → Given line book (order ∷ orders) (record { order = line; chamber = chamber; start = start })
   given_now chamber start decision =
       let known = (yes_exactly book order.ready order.due chamber start).0 decision in
@@ -127,7 +129,7 @@ module _ (line : ℕ) (book : Book) (sized : Sized book) (order : Order) (orders
   -- a later load is apart from that of its yes: its order stands further down, and
   -- their chamber is free only when the yes no longer holds it
   pub apart_later :
-      (chamber start : ℕ) → Decided (right (Chamber chamber start)) → (load : Load) → Given (suc line) (next (right (Chamber chamber start))) orders load
+      (chamber start : ℕ) → Decided (right (chamber_at chamber start)) → (load : Load) → Given (suc line) (next (right (chamber_at chamber start))) orders load
       → Apart (hold book) (record { order = line; chamber = chamber; start = start }) load
   apart_later chamber start decision load given =
       record {

@@ -10,8 +10,8 @@ use Rattle.lines.specs.declared.Load.{Load}
 use Rattle.book.specs.Taking.{decided, next_book, answer_of}
 use Rattle.book.specs.Settling.{Sized}
 use Rattle.book.specs.declared.Book.{Book}
-use Rattle.choice.specs.declared.Choice.{Choice}
-use Rattle.choice.specs.declared.Choice.TheVariants.{Nothing, Chamber}
+use Rattle.std.specs.Prelude.{Option, Some, None}
+use Rattle.choice.specs.declared.Offer.{Offer}
 use Rattle.book.proofs.Steps.{next_sized}
 use Rattle.orders.specs.Answers.{answers_from}
 use Rattle.orders.proofs.Each.{each_none, each_before, each_so, two_none, two_before}
@@ -21,17 +21,17 @@ use Rattle.limit.proofs.YesLoads.{yes_load, yes_loads, GivenLoads, given_later, 
 module _ (line : ℕ) (book : Book) (sized : Sized book) (order : Order) (orders : List Order) where
   -- so the loads from the next book on, with that of its yes before them, are such loads from this book on
   loads_more :
-      {loads : List Load} (choice : Read Choice) → (decided book order.ready order.due ≡ choice) → GivenLoads (suc line) (next_book book order.ready choice) orders loads
+      {loads : List Load} (choice : Read (Option Offer)) → (decided book order.ready order.due ≡ choice) → GivenLoads (suc line) (next_book book order.ready choice) orders loads
       → GivenLoads line book (order ∷ orders) (yes_load line (answer_of choice) ++ loads)
   loads_more (wrong number) decision later =
       record { few = omega (arith, later.few); each = each_so (given_later line book sized order orders (wrong number) decision) later.each; apart = later.apart }
-  loads_more (right Nothing) decision later =
-      record { few = omega (arith, later.few); each = each_so (given_later line book sized order orders (right Nothing) decision) later.each; apart = later.apart }
-  loads_more (right (Chamber chamber start)) decision later =
+  loads_more (right None) decision later =
+      record { few = omega (arith, later.few); each = each_so (given_later line book sized order orders (right None) decision) later.each; apart = later.apart }
+  loads_more (right (Some offer)) decision later =
       record {
         few = omega (arith, later.few);
-        each = each_before (given_now line book sized order orders chamber start decision) (each_so (given_later line book sized order orders (right (Chamber chamber start)) decision) later.each);
-        apart = two_before (each_so (apart_later line book sized order orders chamber start decision) later.each) later.apart;
+        each = each_before (given_now line book sized order orders offer.chamber offer.start decision) (each_so (given_later line book sized order orders (right (Some offer)) decision) later.each);
+        apart = two_before (each_so (apart_later line book sized order orders offer.chamber offer.start decision) later.each) later.apart;
       }
 
   -- these are the loads of the yeses to its line and those behind it

@@ -12,8 +12,8 @@ use Rattle.ground.proofs.Checks.{same_wrong}
 use Rattle.lines.specs.Reading.{order_of}
 use Rattle.lines.specs.declared.Order.{Order}
 use Rattle.lines.proofs.Promises.{order_reads, order_fault, line_fault_from}
-use Rattle.choice.specs.declared.Choice.{Choice}
-use Rattle.choice.specs.declared.Choice.TheVariants.{Nothing, Chamber}
+use Rattle.std.specs.Prelude.{Option, Some, None}
+use Rattle.choice.specs.declared.Offer.{Offer}
 use Rattle.book.specs.Taking.{decided, next_book, answer_of, Answered}
 use Rattle.book.specs.Meaning.{Sound}
 use Rattle.book.specs.declared.Book.{Book}
@@ -100,10 +100,10 @@ answer_at_fault book front line rest number refused =
     answer_at book front line rest ∙ ap (λ one. answer_of (decision (book_after book front) one)) refused
 
 -- an answer that is a refusal was decided as one
-decided_refused : (choice : Read Choice) (number : ℕ) → answer_of choice ≡ Refused number → choice ≡ wrong number
+decided_refused : (choice : Read (Option Offer)) (number : ℕ) → answer_of choice ≡ Refused number → choice ≡ wrong number
 decided_refused (wrong other) number e = cc
-decided_refused (right Nothing) number e = absurd (let z : ◌≡◌ {A = ℕ} 0 1 = cc in omega arith)
-decided_refused (right (Chamber chamber start)) number e = absurd (let z : ◌≡◌ {A = ℕ} 0 1 = cc in omega arith)
+decided_refused (right None) number e = absurd (let z : ◌≡◌ {A = ℕ} 0 1 = cc in omega arith)
+decided_refused (right (Some offer)) number e = absurd (let z : ◌≡◌ {A = ℕ} 0 1 = cc in omega arith)
 
 -- A sound book refuses a line by 1 to 6, and is sound past it.
 module _ (book : Book) (sound : Sound book) (line : List ℕ) where
@@ -115,7 +115,7 @@ module _ (book : Book) (sound : Sound book) (line : List ℕ) where
 
   line_range : (read : Read Order) → order_of line ≡ read → (number : ℕ) → answer_of (decision book read) ≡ Refused number → (1 ≤ number) × (number ≤ 6)
   line_range (wrong other) refused number e =
-      let same : ◌≡◌ {A = Read Choice} (wrong other) (wrong number) = decided_refused (wrong other) number e in
+      let same : ◌≡◌ {A = Read (Option Offer)} (wrong other) (wrong number) = decided_refused (wrong other) number e in
       let own = line_fault_from ((order_fault line number).0 (refused ∙ ap wrong (same_wrong same))) in
       (omega arith, omega arith)
   line_range (right order) read number e = order_range order.ready order.due number (decided_refused (decided book order.ready order.due) number e)

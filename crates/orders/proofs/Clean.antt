@@ -18,8 +18,9 @@ use Rattle.lines.specs.declared.Heading.{Heading}
 use Rattle.lines.specs.declared.Order.{Order}
 use Rattle.lines.proofs.Promises.{heading_reads, heading_ranges, order_reads, order_ranges, order_fault}
 use Rattle.choice.specs.BestFit.{best_fit}
-use Rattle.choice.specs.declared.Choice.{Choice}
-use Rattle.choice.specs.declared.Choice.TheVariants.{Nothing, Chamber}
+use Rattle.std.specs.Prelude.{Option, None}
+use Rattle.std.specs.declared.option.Option.TheVariants as choices
+use Rattle.choice.specs.declared.Offer.{Offer}
 use Rattle.book.specs.Taking.{decided, next_book, answer_of}
 use Rattle.book.specs.Meaning.{Sound, Admitted}
 use Rattle.book.specs.declared.Book.{Book}
@@ -52,10 +53,10 @@ tracks_none line heading headed =
 
 -- an order that the book decides of is counted, and the clock becomes its ready hour
 pub next_counts :
-    (book : Book) (ready : ℕ) (choice : Choice)
+    (book : Book) (ready : ℕ) (choice : Option Offer)
     → ((next_book book ready (right choice)).taken ≡ book.taken + 1) × ((next_book book ready (right choice)).clock ≡ ready)
-next_counts book ready Nothing = (refl, refl)
-next_counts book ready (Chamber chamber start) = (refl, refl)
+next_counts book ready None = (refl, refl)
+next_counts book ready (choices.Some offer) = (refl, refl)
 
 -- hours that were read are in range
 read_most : (line : List ℕ) (order : Order) → order_of line ≡ right order → (order.ready ≤ last_hour) × (order.due ≤ last_hour)
@@ -68,7 +69,7 @@ decision_reads book line order read = rw read
 
 -- where the desk does not refuse a line, it reads as an order of which the book decides
 pub decision_right :
-    (book : Book) (line : List ℕ) (choice : Choice) → decision book (order_of line) ≡ right choice
+    (book : Book) (line : List ℕ) (choice : Option Offer) → decision book (order_of line) ≡ right choice
     → (order : Order) × (order_of line ≡ right order) × (decided book order.ready order.due ≡ right choice)
 decision_right book line choice e = go (order_of line) refl e
   where
@@ -105,7 +106,7 @@ module _ (book : Book) (seen : List Order) (tracks : Tracks seen book) where
 
   -- the book past one order more
   tracks_more :
-      (line : List ℕ) (order : Order) (choice : Choice) → order_of line ≡ right order → decided book order.ready order.due ≡ right choice
+      (line : List ℕ) (order : Order) (choice : Option Offer) → order_of line ≡ right order → decided book order.ready order.due ≡ right choice
       → Each (λ before. before.ready ≤ order.ready) seen → Tracks (seen ++ order ∷ []) (book_past book (order_of line))
   tracks_more line order choice read decides in_turn =
       let counts = next_counts book order.ready choice in
@@ -128,7 +129,7 @@ module _ (book : Book) (seen : List Order) (tracks : Tracks seen book) where
     pub next : Tracks (seen ++ order ∷ []) (book_past book (order_of line))
 
   -- a line that is not refused reads as an order in its turn
-  pub taken_from : (line : List ℕ) (choice : Choice) → decision book (order_of line) ≡ right choice → Taken line
+  pub taken_from : (line : List ℕ) (choice : Option Offer) → decision book (order_of line) ≡ right choice → Taken line
   taken_from line choice e =
       let p = decision_right book line choice e in
       let order = p.0 in
@@ -139,7 +140,7 @@ module _ (book : Book) (seen : List Order) (tracks : Tracks seen book) where
   -- and such a line is not refused
   pub taken_to :
       (line : List ℕ) (order : Order) → order_of line ≡ right order → length seen < 512 → Each (λ before. before.ready ≤ order.ready) seen
-      → (choice : Choice) × (decision book (order_of line) ≡ right choice) × Tracks (seen ++ order ∷ []) (book_past book (order_of line))
+      → (choice : Option Offer) × (decision book (order_of line) ≡ right choice) × Tracks (seen ++ order ∷ []) (book_past book (order_of line))
   taken_to line order read room in_turn =
       let most = read_most line order read in
       let choice = best_fit order.ready order.due book.run 1 (take book.chambers book.free) in
@@ -230,14 +231,14 @@ clean_rest seen line lines order orders clean =
     }
 
 -- an answer that is no refusal is what the book decided
-pub unrefused : (choice : Read Choice) → refusals_in (answer_of choice) ≡ 0 → (value : Choice) × (choice ≡ right value)
+pub unrefused : (choice : Read (Option Offer)) → refusals_in (answer_of choice) ≡ 0 → (value : Option Offer) × (choice ≡ right value)
 unrefused (wrong number) none = absurd (omega arith)
 unrefused (right choice) none = (choice, refl)
 
 -- and what it decided is no refusal
-pub decided_unrefused : (choice : Choice) → refusals_in (answer_of (right choice)) ≡ 0
-decided_unrefused Nothing = refl
-decided_unrefused (Chamber chamber start) = refl
+pub decided_unrefused : (choice : Option Offer) → refusals_in (answer_of (right choice)) ≡ 0
+decided_unrefused None = refl
+decided_unrefused (choices.Some offer) = refl
 
 -- lines of which none is refused are clean
 clean_from :

@@ -10,22 +10,22 @@ use Rattle.lines.specs.declared.Order.{Order}
 use Rattle.book.specs.Taking.{decided, next_book, answer_of}
 use Rattle.book.specs.declared.Book.{Book}
 use Rattle.book.specs.declared.Answer.TheVariants.{Refused}
-use Rattle.choice.specs.declared.Choice.{Choice}
-use Rattle.choice.specs.declared.Choice.TheVariants.{Nothing, Chamber}
+use Rattle.std.specs.Prelude.{Option, Some, None}
+use Rattle.choice.specs.declared.Offer.{Offer}
 use Rattle.book.proofs.Promises.{refused_order_stays}
 use Rattle.orders.specs.Answers.{answers_from, book_after, decision, book_past, refusals_in, refusals, yeses_in, yeses}
 
 -- one order counts as taken unless it is refused, and as kept with a yes
 module _ (book : Book) where
-  order_taken : (ready : ℕ) (choice : Read Choice) → (next_book book ready choice).taken + refusals_in (answer_of choice) ≡ book.taken + 1
+  order_taken : (ready : ℕ) (choice : Read (Option Offer)) → (next_book book ready choice).taken + refusals_in (answer_of choice) ≡ book.taken + 1
   order_taken ready (wrong number) = refl
-  order_taken ready (right Nothing) = omega arith
-  order_taken ready (right (Chamber chamber start)) = omega arith
+  order_taken ready (right None) = omega arith
+  order_taken ready (right (Some offer)) = omega arith
 
-  order_kept : (ready : ℕ) (choice : Read Choice) → (next_book book ready choice).kept ≡ book.kept + yeses_in (answer_of choice)
+  order_kept : (ready : ℕ) (choice : Read (Option Offer)) → (next_book book ready choice).kept ≡ book.kept + yeses_in (answer_of choice)
   order_kept ready (wrong number) = omega arith
-  order_kept ready (right Nothing) = omega arith
-  order_kept ready (right (Chamber chamber start)) = refl
+  order_kept ready (right None) = omega arith
+  order_kept ready (right (Some offer)) = refl
 
   -- so does one line
   line_taken : (order : Read Order) → (book_past book order).taken + refusals_in (answer_of (decision book order)) ≡ book.taken + 1

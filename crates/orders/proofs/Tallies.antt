@@ -11,8 +11,8 @@ use Rattle.lines.specs.Reading.{order_of}
 use Rattle.lines.specs.Meaning.{OrderReads}
 use Rattle.lines.specs.declared.Order.{Order}
 use Rattle.lines.proofs.Promises.{order_reads}
-use Rattle.choice.specs.declared.Choice.{Choice}
-use Rattle.choice.specs.declared.Choice.TheVariants.{Nothing, Chamber}
+use Rattle.std.specs.Prelude.{Option, Some, None}
+use Rattle.choice.specs.declared.Offer.{Offer}
 use Rattle.book.specs.Taking.{decided, next_book, answer_of}
 use Rattle.book.specs.declared.Book.{Book}
 use Rattle.book.specs.declared.Answer.{Answer}
@@ -40,7 +40,7 @@ record Counted (book : Book) (lines : List (List ℕ)) (answers : List Answer) (
 -- by one line that reads
 order_counted :
     (book last : Book) (line : List ℕ) (lines : List (List ℕ)) (order : Order) (answers : List Answer) → order_of line ≡ right order
-    → (choice : Read Choice) → Counted (next_book book order.ready choice) lines answers last
+    → (choice : Read (Option Offer)) → Counted (next_book book order.ready choice) lines answers last
     → Counted book (line ∷ lines) (answer_of choice ∷ answers) last
 order_counted book last line lines order answers read (wrong number) later =
     record {
@@ -50,7 +50,7 @@ order_counted book last line lines order answers read (wrong number) later =
       more_kept = later.more_kept;
       more_taken = later.more_taken;
     }
-order_counted book last line lines order answers read (right Nothing) later =
+order_counted book last line lines order answers read (right None) later =
     record {
       kept = later.kept;
       taken = suc later.taken;
@@ -58,7 +58,7 @@ order_counted book last line lines order answers read (right Nothing) later =
       more_kept = later.more_kept;
       more_taken = omega (arith, later.more_taken);
     }
-order_counted book last line lines order answers read (right (Chamber chamber start)) later =
+order_counted book last line lines order answers read (right (Some offer)) later =
     record {
       kept = suc later.kept;
       taken = suc later.taken;

@@ -1,6 +1,6 @@
 -- What a list is answered, line by line: "The desk program reads an order list … a line for each line after the first … Refused lines
 -- change nothing and it goes on." Assumes nothing.
-use Rattle.std.specs.Prelude.{ℕ, suc, ◌+◌, min, ◌≡◌, cond, List, [], ◌∷◌, length, drop, leb, eqb}
+use Rattle.std.specs.Prelude.{ℕ, suc, ◌+◌, min, ◌≡◌, cond, Option, List, [], ◌∷◌, length, drop, leb, eqb}
 use Rattle.ground.specs.Refusal.{Read, wrong, right, check, ◌>>=◌, ◌>>◌}
 use Rattle.ground.specs.Limits.{longest_text}
 use Rattle.texts.specs.Lines.{lines_of, line_at, past_line}
@@ -10,7 +10,7 @@ use Rattle.lines.specs.declared.Order.{Order}
 use Rattle.book.specs.Soundness.{fresh_book}
 use Rattle.book.specs.Taking.{decided, next_book, told, answer_of}
 use Rattle.book.specs.declared.Book.{Book}
-use Rattle.choice.specs.declared.Choice.{Choice}
+use Rattle.choice.specs.declared.Offer.{Offer}
 use Rattle.book.specs.declared.Answer.{Answer}
 use Rattle.book.specs.declared.Answer.TheVariants.{Yes, No, Refused}
 use Rattle.orders.specs.declared.Progress.{Progress}
@@ -34,7 +34,7 @@ unfoldable pub order_lines : List ℕ → List (List ℕ)
 order_lines text = drop 1 (lines_of text)
 
 -- what is decided of an order line: the line's own refusal, else what the book decides of its hours
-abbrev pub decision : Book → Read Order → Read Choice
+abbrev pub decision : Book → Read Order → Read (Option Offer)
 decision book (wrong number) = wrong number
 decision book (right order) = decided book order.ready order.due
 

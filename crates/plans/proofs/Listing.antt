@@ -16,7 +16,8 @@ use Rattle.lines.specs.Meaning.{OrderReads}
 use Rattle.lines.specs.declared.Heading.{Heading}
 use Rattle.lines.specs.declared.Order.{Order}
 use Rattle.lines.proofs.Promises.{order_reads}
-use Rattle.choice.specs.declared.Choice.{Choice}
+use Rattle.std.specs.Prelude.{Option}
+use Rattle.choice.specs.declared.Offer.{Offer}
 use Rattle.book.specs.Taking.{answer_of}
 use Rattle.orders.specs.Answers.{book_for, order_lines, answers_from, book_after, decision, book_past, refusals_in, refusals, order_in}
 use Rattle.orders.specs.Meaning.{EachReads, none_left, one_more, CleanOrders, OrderWrong}
@@ -43,12 +44,12 @@ module _ (known : ListKnown) (line : List ℕ) where
   known_with = record { book = book_past known.book (order_of line); orders = known.orders ++ order_in (order_of line) ∷ [] }
 
   -- it is noted where the desk decides of it
-  pub line_noted : (choice : Choice) → decision known.book (order_of line) ≡ right choice → note_order known line ≡ right known_with
+  pub line_noted : (choice : Option Offer) → decision known.book (order_of line) ≡ right choice → note_order known line ≡ right known_with
   unfolding note_order
   line_noted choice e = rw e
 
   -- and only there
-  noted_line : (last : ListKnown) → note_order known line ≡ right last → (choice : Choice) × (decision known.book (order_of line) ≡ right choice) × (known_with ≡ last)
+  noted_line : (last : ListKnown) → note_order known line ≡ right last → (choice : Option Offer) × (decision known.book (order_of line) ≡ right choice) × (known_with ≡ last)
   unfolding note_order
   noted_line last e = then_right (decision known.book (order_of line)) known_with last e
 

@@ -16,8 +16,8 @@ use Rattle.lines.specs.declared.Order.{Order}
 use Rattle.lines.proofs.Promises.{order_fault, line_fault_from}
 use Rattle.book.specs.Taking.{decided, next_book, told, answer_of}
 use Rattle.book.specs.declared.Book.{Book}
-use Rattle.choice.specs.declared.Choice.{Choice}
-use Rattle.choice.specs.declared.Choice.TheVariants.{Nothing, Chamber}
+use Rattle.std.specs.Prelude.{Option, Some, None}
+use Rattle.choice.specs.declared.Offer.{Offer}
 use Rattle.book.proofs.Refusals.{by_choice, never_by_none}
 use Rattle.orders.specs.Answers.{decision, Stepped}
 use Rattle.orders.specs.Steps.{line_after}
@@ -32,20 +32,20 @@ use Rattle.plans.proofs.Going.{through_done, through_on, through_stops}
 use Rattle.plans.proofs.Listing.{line_noted, line_refused}
 
 -- the number that an answer tells is that of its refusal
-pub told_number : (decision : Read Choice) → (told (answer_of decision)).refusal ≡ number_of decision
+pub told_number : (decision : Read (Option Offer)) → (told (answer_of decision)).refusal ≡ number_of decision
 told_number (wrong number) = refl
-told_number (right Nothing) = refl
-told_number (right (Chamber chamber start)) = refl
+told_number (right None) = refl
+told_number (right (Some offer)) = refl
 
 -- no line is refused by 0: where there is no number, the desk decides
-decides : (book : Book) (line : List ℕ) → number_of (decision book (order_of line)) ≡ 0 → (choice : Choice) × (decision book (order_of line) ≡ right choice)
+decides : (book : Book) (line : List ℕ) → number_of (decision book (order_of line)) ≡ 0 → (choice : Option Offer) × (decision book (order_of line) ≡ right choice)
 decides book line none = go (order_of line) refl none
   where
-    of_order : (order : Order) (made : Read Choice) → decided book order.ready order.due ≡ made → number_of made ≡ 0 → (choice : Choice) × (made ≡ right choice)
+    of_order : (order : Order) (made : Read (Option Offer)) → decided book order.ready order.due ≡ made → number_of made ≡ 0 → (choice : Option Offer) × (made ≡ right choice)
     of_order order (wrong number) refused none = absurd (never_by_none book order.ready order.due (refused ∙ ap wrong none))
     of_order order (right choice) chosen none = (choice, refl)
 
-    go : (read : Read Order) → order_of line ≡ read → number_of (decision book read) ≡ 0 → (choice : Choice) × (decision book read ≡ right choice)
+    go : (read : Read Order) → order_of line ≡ read → number_of (decision book read) ≡ 0 → (choice : Option Offer) × (decision book read ≡ right choice)
     go (wrong number) refused none = absurd (omega (arith, none, (line_fault_from ((order_fault line number).0 refused)).0))
     go (right order) reads none = of_order order (decided book order.ready order.due) refl none
 
@@ -82,7 +82,7 @@ module _ (list : List ℕ) (progress : Progress) (step : Step) (stepped : Steppe
 
     module _ (none : (told step.answer).refusal ≡ 0) where
       -- else the desk decides of its order
-      decided_of : (choice : Choice) × (decision progress.book (order_of line) ≡ right choice)
+      decided_of : (choice : Option Offer) × (decision progress.book (order_of line) ≡ right choice)
       decided_of = decides progress.book line (sym number_is ∙ none)
 
       -- the book had room for it and took it

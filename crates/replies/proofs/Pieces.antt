@@ -17,8 +17,8 @@ use Rattle.lines.specs.Reading.{order_of}
 use Rattle.lines.proofs.Promises.{line_fault_from}
 use Rattle.lines.specs.declared.Order.{Order}
 use Rattle.writer.specs.Line.{line_room}
-use Rattle.choice.specs.declared.Choice.{Choice}
-use Rattle.choice.specs.declared.Choice.TheVariants.{Nothing, Chamber}
+use Rattle.std.specs.Prelude.{Option, Some, None}
+use Rattle.choice.specs.declared.Offer.{Offer}
 use Rattle.book.specs.Taking.{decided, answer_of}
 use Rattle.book.specs.declared.Book.{Book}
 use Rattle.book.specs.declared.Answer.{Answer}
@@ -36,13 +36,13 @@ use Rattle.replies.proofs.Filling.{is_on, going_on, filling_on}
 use Rattle.replies.proofs.Walking.{due, Counted, due_over, due_on, counted_on, begun_counted, begun_due}
 
 -- every start that a book gives is an hour
-chosen_in_range : (book : Book) (ready deadline : ℕ) (choice : Read Choice) → decided book ready deadline ≡ choice → start_in_range (answer_of choice) ≡ true
+chosen_in_range : (book : Book) (ready deadline : ℕ) (choice : Read (Option Offer)) → decided book ready deadline ≡ choice → start_in_range (answer_of choice) ≡ true
 chosen_in_range book ready deadline (wrong number) same = refl
-chosen_in_range book ready deadline (right Nothing) same = refl
-chosen_in_range book ready deadline (right (Chamber chamber start)) same =
-    let timely = start_in_time book ready deadline chamber start same in
-    let admitted = ((yes_exactly book ready deadline chamber start).0 same).0 in
-    le-leb start last_hour (omega (arith, timely, admitted.due_most))
+chosen_in_range book ready deadline (right None) same = refl
+chosen_in_range book ready deadline (right (Some offer)) same =
+    let timely = start_in_time book ready deadline offer.chamber offer.start same in
+    let admitted = ((yes_exactly book ready deadline offer.chamber offer.start).0 same).0 in
+    le-leb offer.start last_hour (omega (arith, timely, admitted.due_most))
 
 pub start_in_range_lem : (book : Book) (order : Read Order) → start_in_range (answer_of (decision book order)) ≡ true
 start_in_range_lem book (wrong number) = refl

@@ -17,8 +17,8 @@ use Rattle.lines.specs.Reading.{order_of}
 use Rattle.lines.specs.declared.Order.{Order}
 use Rattle.lines.proofs.Promises.{order_fault, line_fault_from}
 use Rattle.writer.proofs.Line.{number_short, hour_short, hour_within_lem}
-use Rattle.choice.specs.declared.Choice.{Choice}
-use Rattle.choice.specs.declared.Choice.TheVariants.{Nothing, Chamber}
+use Rattle.std.specs.Prelude.{Option, Some, None}
+use Rattle.choice.specs.declared.Offer.{Offer}
 use Rattle.book.specs.Taking.{decided, answer_of}
 use Rattle.book.specs.declared.Book.{Book}
 use Rattle.book.specs.declared.Answer.{Answer}
@@ -37,13 +37,13 @@ Small (Yes chamber start) = chamber ≤ 8
 Small No = Unit {0}
 Small (Refused number) = number ≤ 9
 
-chosen_small : (book : Book) (ready deadline : ℕ) (choice : Read Choice) → decided book ready deadline ≡ choice → Small (answer_of choice)
+chosen_small : (book : Book) (ready deadline : ℕ) (choice : Read (Option Offer)) → decided book ready deadline ≡ choice → Small (answer_of choice)
 chosen_small book ready deadline (wrong number) same =
     ⊎_elim (λ e. omega arith) (λ others. ⊎_elim (λ e. omega arith) (λ more. ⊎_elim (λ e. omega arith) (λ e. omega arith) more) others)
     (refused_by_no_other book ready deadline number same)
-chosen_small book ready deadline (right Nothing) same = tt
-chosen_small book ready deadline (right (Chamber chamber start)) same =
-    let facts = (yes_exactly book ready deadline chamber start).0 same in
+chosen_small book ready deadline (right None) same = tt
+chosen_small book ready deadline (right (Some offer)) same =
+    let facts = (yes_exactly book ready deadline offer.chamber offer.start).0 same in
     omega (arith, facts.0.sound.chambers_range.1, facts.1.fitting.numbered.1)
 
 answer_small : (book : Book) (text : List ℕ) (read : Read Order) → order_of text ≡ read → Small (answer_of (decision book read))

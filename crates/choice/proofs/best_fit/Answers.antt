@@ -1,27 +1,28 @@
--- `best_fit` goes chamber after chamber: the choice so far and the best of what is left come to the best of all.
-use Prim.Native.Nat.{◌+◌}
-use mathlib.Core.Path.{sym, ◌∙◌}
+-- `best_fit` picks the best of what the chambers offer, which is the choice among them.
+use Prim.Native.Nat.{◌+◌, ◌-◌}
+use mathlib.Core.Path.{◌≡◌, refl, sym, ◌∙◌}
+use mathlib.Core.List.{List}
+use lib.ListN.{take}
 use native.Mathlib.Omega.{arith}
-use lib.ListN.{length-take}
-use Rattle.choice.proofs.Choosing.{choice_step, choice_end}
+use borrow.Author.Tests.{tests}
+use Rattle.std.proofs.Common.{rules}
+use Rattle.std.specs.List.{reduce, filter_map, zip, range_with_len}
+use Rattle.std.proofs.lemmas.Iterator.{YieldsList, YieldsList-from_slice, YieldsList-from_zip}
+use Rattle.std.proofs.lemmas.Iterator.Consumers.{YieldsList-from_filter_map, YieldsList-at}
+use Rattle.choice.specs.BestFit.{fuller, best_fit}
+use Rattle.choice.proofs.Choosing.{its_offer, best_offer}
+use Rattle.choice.proofs.Chain.{picked, counted}
 use Rattle.choice.proofs.best_fit.Goals as goal
-
-pub returns-then-count-chamber : goal.returns-then-count-chamber
-returns-then-count-chamber c =
-    let a = c.args in
-    sym (choice_end a.ready a.due a.run (c.loop-at.chamber + 1) c.loop-at.choice a.hours.now a.count c.loop-at.at (simp length-take (omega arith))) ∙ c.loop-at.invariant.3
-
-pub loop-at-preserved : goal.loop-at-preserved
-loop-at-preserved c =
-    let a = c.args in (
-      omega arith,
-      omega arith,
-      omega arith,
-      rw (c.better-choice.ensures, c.offer.ensures)
-          (sym (choice_step a.ready a.due a.run (c.loop-at.chamber + 1) c.loop-at.choice a.hours.now a.count c.loop-at.at (omega arith) (omega arith)) ∙ c.loop-at.invariant.3),
-    )
 
 pub returns : goal.returns
 returns c =
     let a = c.args in
-    sym (choice_end a.ready a.due a.run (c.loop-at.chamber + 1) c.loop-at.choice a.hours.now a.count c.loop-at.at (simp length-take (omega arith))) ∙ c.loop-at.invariant.3
+    let its_best : c.reduce.result ≡ reduce fuller (filter_map (its_offer a.ready a.due a.run) (zip (range_with_len 1 a.count) a.hours.now)) =
+    picked _ fuller c.reduce.result c.reduce.ensures.ran
+    (YieldsList-from_filter_map _ (its_offer a.ready a.due a.run)
+    (YieldsList-at c.filter_map.ensures.source
+    (YieldsList-from_zip (YieldsList-at c.zip.ensures.first (counted a.count c.new.result (cc) (cc) (cc))) (YieldsList-from_slice a.hours.now cc)))
+    c.filter_map.ensures.closure
+    (λ x r q k. search (rules, tests)))
+    (λ one other given after ran. search (rules, tests)) in
+    its_best ∙ best_offer a.ready a.due a.run 1 a.count a.hours.now
