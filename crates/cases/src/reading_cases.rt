@@ -1,47 +1,45 @@
 // The cases of reading: a text as an hour, a plain number, a heading, an order or a load, and a text walked through line by line.
 // Any text may come. Assumes nothing.
 use crate::results;
-use hours::{HourRead, PlainRead};
-use lines::{HeadingRead, LoadRead, OrderRead};
 
 pub(crate) fn hour(field: &[u8]) {
     match hours::read_hour(field) {
-        HourRead::Hour(hour) => results::named(b"hour", &[hour]),
-        HourRead::Refused(number) => results::refused(number),
+        Ok(hour) => results::named(b"hour", &[hour]),
+        Err(refusal) => results::refused(refusal.number()),
     }
 }
 
 pub(crate) fn number(field: &[u8]) {
     match hours::read_plain(field) {
-        PlainRead::Number(number) => results::named(b"number", &[number]),
-        PlainRead::Refused(number) => results::refused(number),
+        Ok(number) => results::named(b"number", &[number]),
+        Err(refusal) => results::refused(refusal.number()),
     }
 }
 
 pub(crate) fn heading(line: &[u8]) {
     match lines::read_heading(line) {
-        HeadingRead::Read(heading) => {
+        Ok(heading) => {
             results::named(b"heading", &[heading.chambers, heading.run]);
         }
-        HeadingRead::Refused(number) => results::refused(number),
+        Err(refusal) => results::refused(refusal.number()),
     }
 }
 
 pub(crate) fn order(line: &[u8]) {
     match lines::read_order(line) {
-        OrderRead::Read(order) => {
+        Ok(order) => {
             results::named(b"order", &[order.grower, order.ready, order.due]);
         }
-        OrderRead::Refused(number) => results::refused(number),
+        Err(refusal) => results::refused(refusal.number()),
     }
 }
 
 pub(crate) fn load(line: &[u8], count: u32) {
     match lines::read_load(line, count) {
-        LoadRead::Read(load) => {
+        Ok(load) => {
             results::named(b"load", &[load.order, load.chamber, load.start]);
         }
-        LoadRead::Refused(number) => results::refused(number),
+        Err(refusal) => results::refused(refusal.number()),
     }
 }
 

@@ -1,22 +1,21 @@
 -- What this room promises, about what its functions answer and about the definitions that their contracts cite, at the comma, 44.
 -- Each is a line over a law of this folder. Assumes nothing.
 use Prim.Native.Nat.{ℕ, ◌≤◌}
-use mathlib.Core.Path.{◌≡◌, refl, sym, ap}
+use mathlib.Core.Path.{◌≡◌, refl}
 use mathlib.Core.List.{List}
 use mathlib.Core.Logic.Iff
 use mathlib.Core.Logic.{◌↔◌}
 use contract.Lifetimes.{Lfts}
-use Rattle.ground.specs.Refusal.{wrong, right}
+use Rattle.std.specs.Prelude.{Result, Ok, Err}
+use Rattle.ground.specs.declared.Refusal.{Refusal}
+use Rattle.ground.specs.declared.Refusal.TheVariants.{NotPlain, NotHour}
+use Rattle.ground.specs.Refusal.{wrong, right, refusal_number, as_read}
 use Rattle.ground.specs.Spelling.{Plain, value_of}
-use Rattle.ground.specs.Outcome.{Injective, Single}
-use Rattle.ground.proofs.Checks.{never_right, same_right, same_wrong}
-use Rattle.ground.proofs.Outcome.{answered_exactly}
+use Rattle.ground.specs.Outcome.{Single}
+use Rattle.ground.proofs.Refusals.{refusals_told, answers_told}
+use Rattle.ground.proofs.Outcome.{single_answer, answered_exactly}
 use Rattle.hours.specs.Spelling.{Spells}
-use Rattle.hours.specs.Reading.{hour_of, as_hour, plain_of, as_plain}
-use Rattle.hours.specs.declared.HourRead.{HourRead}
-use Rattle.hours.specs.declared.HourRead.TheVariants.{Hour, Refused}
-use Rattle.hours.specs.declared.PlainRead.{PlainRead}
-use Rattle.hours.specs.declared.PlainRead.TheVariants as plain
+use Rattle.hours.specs.Reading.{hour_of, plain_of}
 use Rattle.hours.proofs.Spelling as spelling
 use Rattle.hours.proofs.read_hour.Reads as read_hour
 use Rattle.hours.proofs.read_plain.Reads as read_plain
@@ -41,61 +40,47 @@ plain_exactly = spelling.plain_exactly
 pub refused_by_two : (field : List ℕ) (number : ℕ) → (plain_of field ≡ wrong number) ↔ ((number ≡ 2) × (Plain field → ⊥))
 refused_by_two = spelling.plain_refused
 
--- the paper's number and value for each case of an answer
-pub as_hour_lem : (number : ℕ) → (as_hour (Hour number) ≡ right number) × (as_hour (Refused number) ≡ wrong number)
-as_hour_lem number = (refl, refl)
-
-pub as_plain_lem : (number : ℕ) → (as_plain (plain.Number number) ≡ right number) × (as_plain (plain.Refused number) ≡ wrong number)
-as_plain_lem number = (refl, refl)
-
--- they tell the cases apart
-hour_told : Injective as_hour
-hour_told (Hour one) (Hour other) same = ap Hour (same_right same)
-hour_told (Hour one) (Refused other) same = absurd (never_right (sym same))
-hour_told (Refused one) (Hour other) same = absurd (never_right same)
-hour_told (Refused one) (Refused other) same = ap Refused (same_wrong same)
-
-plain_told : Injective as_plain
-plain_told (plain.Number one) (plain.Number other) same = ap plain.Number (same_right same)
-plain_told (plain.Number one) (plain.Refused other) same = absurd (never_right (sym same))
-plain_told (plain.Refused one) (plain.Number other) same = absurd (never_right same)
-plain_told (plain.Refused one) (plain.Refused other) same = ap plain.Refused (same_wrong same)
-
 module _ (κs : Lfts 1) (field : _) (after : _) where
   -- 1d: the contract of `read_hour` admits a single outcome
   pub read_hour_single : Single (λ answer. read_hour.Learnt κs (field, tt) answer (after, tt))
-  read_hour_single one other this that = hour_told one other (cc)
+  read_hour_single = single_answer as_read answers_told (hour_of 44 field.now)
 
   -- it answers an hour exactly when the field spells it
   pub read_hour_exactly :
-      (answer : HourRead) → read_hour.Learnt κs (field, tt) answer (after, tt) → (hour : ℕ) → (answer ≡ Hour hour) ↔ Spells 44 field.now hour
+      (answer : Result ℕ Refusal) → read_hour.Learnt κs (field, tt) answer (after, tt) → (hour : ℕ) → (answer ≡ Ok hour) ↔ Spells 44 field.now hour
   read_hour_exactly answer learnt hour =
-      Iff.trans (answered_exactly as_hour hour_told answer (Hour hour) learnt) (reads_exactly field.now hour)
+      Iff.trans (answered_exactly as_read answers_told answer (Ok hour) learnt) (reads_exactly field.now hour)
 
-  -- and refuses it, by 3, exactly when it spells none
+  -- and refuses it as no hour, by 3, exactly when it spells none
   pub read_hour_refused :
-      (answer : HourRead) → read_hour.Learnt κs (field, tt) answer (after, tt) → (number : ℕ)
-      → (answer ≡ Refused number) ↔ ((number ≡ 3) × ((hour : ℕ) → Spells 44 field.now hour → ⊥))
-  read_hour_refused answer learnt number =
-      Iff.trans (answered_exactly as_hour hour_told answer (Refused number) learnt) (refused_by_three field.now number)
+      (answer : Result ℕ Refusal) → read_hour.Learnt κs (field, tt) answer (after, tt) → (refusal : Refusal)
+      → (answer ≡ Err refusal) ↔ ((refusal ≡ NotHour) × (refusal_number refusal ≡ 3) × ((hour : ℕ) → Spells 44 field.now hour → ⊥))
+  read_hour_refused answer learnt refusal =
+      let exactly = Iff.trans (answered_exactly as_read answers_told answer (Err refusal) learnt) (refused_by_three field.now (refusal_number refusal)) in (
+        λ refused. let is = exactly.0 refused in (refusals_told refusal NotHour is.0, is.0, is.1),
+        λ is. exactly.1 (is.1, is.2),
+      )
 
   -- 1d: the contract of `read_plain` admits a single outcome
   pub read_plain_single : Single (λ answer. read_plain.Learnt κs (field, tt) answer (after, tt))
-  read_plain_single one other this that = plain_told one other (cc)
+  read_plain_single = single_answer as_read answers_told (plain_of field.now)
 
   -- it answers a number exactly when the field is plain and worth it
   pub read_plain_exactly :
-      (answer : PlainRead) → read_plain.Learnt κs (field, tt) answer (after, tt) → (number : ℕ)
-      → (answer ≡ plain.Number number) ↔ (Plain field.now × (number ≡ value_of field.now))
+      (answer : Result ℕ Refusal) → read_plain.Learnt κs (field, tt) answer (after, tt) → (number : ℕ)
+      → (answer ≡ Ok number) ↔ (Plain field.now × (number ≡ value_of field.now))
   read_plain_exactly answer learnt number =
-      Iff.trans (answered_exactly as_plain plain_told answer (plain.Number number) learnt) (plain_exactly field.now number)
+      Iff.trans (answered_exactly as_read answers_told answer (Ok number) learnt) (plain_exactly field.now number)
 
-  -- and refuses it, by 2, exactly when it is not plain
+  -- and refuses it as no plain number, by 2, exactly when it is not plain
   pub read_plain_refused :
-      (answer : PlainRead) → read_plain.Learnt κs (field, tt) answer (after, tt) → (number : ℕ)
-      → (answer ≡ plain.Refused number) ↔ ((number ≡ 2) × (Plain field.now → ⊥))
-  read_plain_refused answer learnt number =
-      Iff.trans (answered_exactly as_plain plain_told answer (plain.Refused number) learnt) (refused_by_two field.now number)
+      (answer : Result ℕ Refusal) → read_plain.Learnt κs (field, tt) answer (after, tt) → (refusal : Refusal)
+      → (answer ≡ Err refusal) ↔ ((refusal ≡ NotPlain) × (refusal_number refusal ≡ 2) × (Plain field.now → ⊥))
+  read_plain_refused answer learnt refusal =
+      let exactly = Iff.trans (answered_exactly as_read answers_told answer (Err refusal) learnt) (refused_by_two field.now (refusal_number refusal)) in (
+        λ refused. let is = exactly.0 refused in (refusals_told refusal NotPlain is.0, is.0, is.1),
+        λ is. exactly.1 (is.1, is.2),
+      )
 
 -- 1a: no public function asks anything of what it is passed
 pub nothing_asked :

@@ -3,13 +3,12 @@ use Prim.Native.Nat.{ℕ, suc, ◌+◌, ◌-◌, ◌*◌, ◌^◌, ◌≤◌, �
 use mathlib.Core.Path.{◌≡◌, refl}
 use mathlib.Core.Bool.{Bool, true, false, cond}
 use mathlib.Core.List.{List, [], ◌∷◌, ◌++◌}
-use lib.ListN.{length, get_or, drop, drop_of_length-le}
-use lib.Seq.{drop-cons}
+use lib.ListN.{length}
 use lib.Dec.{eqb}
 use native.Mathlib.Nat.{pow-suc, pow-le-pow_right}
-use native.Mathlib.Numerals.{add-one}
 use native.Mathlib.Omega.{arith}
 use borrow.Author.Tests.{le-leb}
+use Rattle.std.proofs.lemmas.List.Sums.{fold-append}
 use Rattle.ground.specs.Spelling.{AllDigits, value_after, value_of, Plain}
 use Rattle.classes.specs.Classes.{is_digit, class_of}
 use Rattle.classes.specs.declared.Class.TheVariants.{Tab, LineEnd, Foreign}
@@ -18,23 +17,10 @@ use Rattle.hours.specs.Reading.{next, scanned}
 use Rattle.hours.specs.declared.Stage.{Stage}
 use Rattle.hours.specs.declared.Stage.TheVariants.{Start, Whole, Broken}
 
--- one byte further
-pub scan_step :
-    (mark : ℕ) (stage : Stage) (field : List ℕ) (at : ℕ) → at < length field
-    → scanned mark stage (drop at field) ≡ scanned mark (next stage (class_of mark (get_or field at 0))) (drop (at + 1) field)
-unfolding scanned
-scan_step mark stage field at inside = rw (drop-cons field at 0 inside, add-one)
-
--- nothing left
-pub scan_end : (mark : ℕ) (stage : Stage) (field : List ℕ) (at : ℕ) → length field ≤ at → scanned mark stage (drop at field) ≡ stage
-unfolding scanned
-scan_end mark stage field at past = rw (drop_of_length-le field past)
-
 -- one piece after another
 pub scan_append : (mark : ℕ) (stage : Stage) (front rest : List ℕ) → scanned mark stage (front ++ rest) ≡ scanned mark (scanned mark stage front) rest
 unfolding scanned
-scan_append mark stage [] rest = refl
-scan_append mark stage (byte ∷ front) rest = scan_append mark (next stage (class_of mark byte)) front rest
+scan_append mark stage front rest = fold-append _ stage front rest
 
 -- after a byte that is no digit and not the mark the reading is broken
 broken_after : (tab line_end : Bool) (stage : Stage) → next stage (cond tab Tab (cond line_end LineEnd Foreign)) ≡ Broken

@@ -137,9 +137,9 @@ module _ (mark : ℕ) (unlike : is_digit mark ≡ false) where
   unfolding hour_of scanned
   reads_what_it_spells field hour (hours plain e) = rw (scan_plain mark field plain, e) (ap right (omega arith))
   reads_what_it_spells field hour (tenths word tenth plain digit spelled e) =
-      rw (spelled, scan_append, scan_plain mark word plain, class_of_mark mark unlike, class_of_digit mark tenth digit, e) (ap right (omega arith))
+      rw (spelled, scan_append mark Start word, scan_plain mark word plain, class_of_mark mark unlike, class_of_digit mark tenth digit, e) (ap right (omega arith))
   reads_what_it_spells field hour (hundredths word tenth hundredth plain digit other spelled e) =
-      rw (spelled, scan_append, scan_plain mark word plain, class_of_mark mark unlike, class_of_digit mark tenth digit, class_of_digit mark hundredth other, e)
+      rw (spelled, scan_append mark Start word, scan_plain mark word plain, class_of_mark mark unlike, class_of_digit mark tenth digit, class_of_digit mark hundredth other, e)
 
   -- a field reads as an hour exactly when it spells it
   pub reads_exactly : (field : List ℕ) (hour : ℕ) → (hour_of mark field ≡ right hour) ↔ Spells mark field hour
@@ -156,6 +156,10 @@ module _ (mark : ℕ) (unlike : is_digit mark ≡ false) where
   -- a field of more than seven bytes is no hour
   pub too_long : (field : List ℕ) → 7 < length field → hour_of mark field ≡ wrong 3
   too_long field long = (refused_exactly field 3).1 (refl, λ hour spells. omega (arith, (spelled_most field hour spells).1))
+
+-- and none with the comma
+pub no_hour : (field : List ℕ) → 7 < length field → hour_of comma field ≡ wrong 3
+no_hour = too_long comma refl
 
 -- A field is a whole part with nothing behind it exactly when it is a plain number, and the only refusal of such a reading is 2.
 plain_says_at : (field : List ℕ) (stage : Stage) → Reached comma field stage → ReadAs (λ number. Plain field × (number ≡ value_of field)) 2 (ended_plain stage)

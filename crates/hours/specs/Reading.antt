@@ -1,5 +1,5 @@
 -- How an hour is read, byte after byte from the left; `Spelling` says what it means to be an hour's text. Assumes nothing.
-use Rattle.std.specs.Prelude.{ℕ, ◌+◌, ◌*◌, cond, List, [], ◌∷◌}
+use Rattle.std.specs.Prelude.{ℕ, ◌+◌, ◌*◌, cond, List, fold}
 use Rattle.ground.specs.Range.{within}
 use Rattle.ground.specs.Refusal.{Read, wrong, right}
 use Rattle.classes.specs.Classes.{comma, class_of}
@@ -7,11 +7,6 @@ use Rattle.classes.specs.declared.Class.{Class}
 use Rattle.classes.specs.declared.Class.TheVariants.{Digit, Mark, Tab, LineEnd, Foreign}
 use Rattle.hours.specs.declared.Stage.{Stage}
 use Rattle.hours.specs.declared.Stage.TheVariants.{Start, Whole, Marked, Tenth, Hundredth, Broken}
-use Rattle.hours.specs.declared.HourRead.{HourRead}
-use Rattle.hours.specs.declared.HourRead.TheVariants.{Hour, Refused}
-use Rattle.hours.specs.declared.PlainRead.{PlainRead}
-use Rattle.hours.specs.declared.PlainRead.TheVariants.{Number}
-use Rattle.hours.specs.declared.PlainRead.TheVariants as plain
 
 -- a whole part with one more digit: it takes one while it has fewer than four, and none after a leading zero
 abbrev pub longer : ℕ → ℕ → Stage
@@ -45,8 +40,7 @@ next stage Foreign = Broken
 
 -- after all bytes of a field
 unfoldable pub scanned : ℕ → Stage → List ℕ → Stage
-scanned mark stage [] = stage
-scanned mark stage (byte ∷ rest) = scanned mark (next stage (class_of mark byte)) rest
+scanned mark = fold (λ stage byte. next stage (class_of mark byte))
 
 -- "Inside, an hour is a whole number of hundredths": from its whole part, its tenth and its hundredth
 abbrev pub in_hundredths : ℕ → ℕ → ℕ → ℕ
@@ -65,11 +59,6 @@ ended Broken = wrong 3
 unfoldable pub hour_of : ℕ → List ℕ → Read ℕ
 hour_of mark field = ended (scanned mark Start field)
 
--- the paper's number and values for each case of the answer
-abbrev pub as_hour : HourRead → Read ℕ
-as_hour (Hour hour) = right hour
-as_hour (Refused number) = wrong number
-
 -- what has been read as a plain number where the field ends: the whole part of an hour is spelled as one; 2 for anything else
 abbrev pub ended_plain : Stage → Read ℕ
 ended_plain Start = wrong 2
@@ -82,8 +71,3 @@ ended_plain Broken = wrong 2
 -- the plain number that a field spells, or refusal 2
 unfoldable pub plain_of : List ℕ → Read ℕ
 plain_of field = ended_plain (scanned comma Start field)
-
--- the paper's number and value for each case of the answer
-abbrev pub as_plain : PlainRead → Read ℕ
-as_plain (Number number) = right number
-as_plain (plain.Refused number) = wrong number

@@ -1,27 +1,24 @@
 -- What this room promises, of the contracts themselves and of the definitions that they cite, by the laws of this folder. Assumes nothing.
 use Prim.Native.Nat.{ℕ, ◌≤◌}
-use mathlib.Core.Path.{◌≡◌, refl, sym, ap}
+use mathlib.Core.Path.{◌≡◌, refl, sym, ap, ◌∙◌}
 use mathlib.Core.List.{List, [], ◌∷◌}
 use mathlib.Core.Logic.Iff
 use mathlib.Core.Logic.{◌↔◌}
 use native.Mathlib.Omega.{arith}
 use contract.Lifetimes.{Lfts}
 use denote.Ref.{Bor}
-use Rattle.ground.specs.Refusal.{wrong, right}
-use Rattle.ground.specs.Outcome.{Injective, Single}
-use Rattle.ground.proofs.Checks.{never_right, same_right, same_wrong}
+use Rattle.std.specs.Prelude.{Result, Ok, Err}
+use Rattle.ground.specs.declared.Refusal.{Refusal}
+use Rattle.ground.specs.Refusal.{Read, wrong, right, refusal_number, as_read}
+use Rattle.ground.specs.Outcome.{Single}
+use Rattle.ground.proofs.Checks.{never_right, same_wrong}
+use Rattle.ground.proofs.Refusals.{answers_told}
 use Rattle.ground.proofs.Outcome.{single_answer, answered_exactly}
-use Rattle.lines.specs.Reading.{last_grower, steam, heading_of, order_of, load_of, as_heading, as_order, as_load}
+use Rattle.lines.specs.Reading.{last_grower, steam, heading_of, order_of, load_of}
 use Rattle.lines.specs.Meaning.{Kind, LineFault, misshapen, at_field, HeadingReads, HeadingFault, OrderReads, OrderFault, LoadReads, LoadFault}
 use Rattle.lines.specs.declared.Heading.{Heading}
 use Rattle.lines.specs.declared.Order.{Order}
 use Rattle.lines.specs.declared.Load.{Load}
-use Rattle.lines.specs.declared.HeadingRead.{HeadingRead}
-use Rattle.lines.specs.declared.OrderRead.{OrderRead}
-use Rattle.lines.specs.declared.LoadRead.{LoadRead}
-use Rattle.lines.specs.declared.HeadingRead.TheVariants as heading
-use Rattle.lines.specs.declared.OrderRead.TheVariants as order
-use Rattle.lines.specs.declared.LoadRead.TheVariants as load
 use Rattle.lines.proofs.read_heading.Reads as read_heading
 use Rattle.lines.proofs.read_order.Reads as read_order
 use Rattle.lines.proofs.read_load.Reads as read_load
@@ -97,86 +94,56 @@ pub line_fault_from : {least : ℕ} {kinds : List Kind} {line : List ℕ} {numbe
 line_fault_from (misshapen never) = (omega arith, omega arith)
 line_fault_from (at_field fields shaped fault) = first_from fault
 
--- the paper's number and values for each case of an answer
-pub heading_as_read : (values : Heading) → as_heading (heading.Read values) ≡ right values
-heading_as_read values = refl
-
-pub heading_as_refused : (number : ℕ) → as_heading (heading.Refused number) ≡ wrong number
-heading_as_refused number = refl
-
-pub order_as_read : (values : Order) → as_order (order.Read values) ≡ right values
-order_as_read values = refl
-
-pub order_as_refused : (number : ℕ) → as_order (order.Refused number) ≡ wrong number
-order_as_refused number = refl
-
-pub load_as_read : (values : Load) → as_load (load.Read values) ≡ right values
-load_as_read values = refl
-
-pub load_as_refused : (number : ℕ) → as_load (load.Refused number) ≡ wrong number
-load_as_refused number = refl
-
--- they tell the cases apart
-heading_told : Injective as_heading
-heading_told (heading.Read one) (heading.Read other) same = ap heading.Read (same_right same)
-heading_told (heading.Read one) (heading.Refused other) same = absurd (never_right (sym same))
-heading_told (heading.Refused one) (heading.Read other) same = absurd (never_right same)
-heading_told (heading.Refused one) (heading.Refused other) same = ap heading.Refused (same_wrong same)
-
-order_told : Injective as_order
-order_told (order.Read one) (order.Read other) same = ap order.Read (same_right same)
-order_told (order.Read one) (order.Refused other) same = absurd (never_right (sym same))
-order_told (order.Refused one) (order.Read other) same = absurd (never_right same)
-order_told (order.Refused one) (order.Refused other) same = ap order.Refused (same_wrong same)
-
-load_told : Injective as_load
-load_told (load.Read one) (load.Read other) same = ap load.Read (same_right same)
-load_told (load.Read one) (load.Refused other) same = absurd (never_right (sym same))
-load_told (load.Refused one) (load.Read other) same = absurd (never_right same)
-load_told (load.Refused one) (load.Refused other) same = ap load.Refused (same_wrong same)
+-- an answer refuses by a number exactly when its reading does
+refused_by :
+    {A : Type 0} {read : Read A} (answer : Result A Refusal) → as_read answer ≡ read → (number : ℕ)
+    → ((refusal : Refusal) × (answer ≡ Err refusal) × (refusal_number refusal ≡ number)) ↔ (read ≡ wrong number)
+refused_by (Ok value) reads number = (λ by. absurd (never_right (sym (ap as_read by.1))), λ refused. absurd (never_right (sym (reads ∙ refused))))
+refused_by (Err refusal) reads number =
+    (λ by. sym reads ∙ ap as_read by.1 ∙ ap wrong by.2, λ refused. (refusal, refl, same_wrong (reads ∙ refused)))
 
 -- 1b, of the answer itself: `read_heading` reads these values exactly when the line has its three fields and they read as the word,
 -- these chambers from 1 to 8 and this run from 1 to 9,999; and it refuses by a number exactly when the first fault has it
-module _ (κs : Lfts 1) (line : Bor (List ℕ)) (answer : HeadingRead) (after : _) (learnt : read_heading.Learnt κs (line, tt) answer after) where
-  pub heading_read_exactly : (values : Heading) → (answer ≡ heading.Read values) ↔ HeadingReads line.now values
-  heading_read_exactly values = Iff.trans (answered_exactly as_heading heading_told answer _ learnt) (heading_reads line.now values)
+module _ (κs : Lfts 1) (line : Bor (List ℕ)) (answer : Result Heading Refusal) (after : _) (learnt : read_heading.Learnt κs (line, tt) answer after) where
+  pub heading_read_exactly : (values : Heading) → (answer ≡ Ok values) ↔ HeadingReads line.now values
+  heading_read_exactly values = Iff.trans (answered_exactly as_read answers_told answer _ learnt) (heading_reads line.now values)
 
-  pub heading_refused_exactly : (number : ℕ) → (answer ≡ heading.Refused number) ↔ HeadingFault line.now number
-  heading_refused_exactly number = Iff.trans (answered_exactly as_heading heading_told answer _ learnt) (heading_fault line.now number)
+  pub heading_refused_exactly : (number : ℕ) → ((refusal : Refusal) × (answer ≡ Err refusal) × (refusal_number refusal ≡ number)) ↔ HeadingFault line.now number
+  heading_refused_exactly number = Iff.trans (refused_by answer learnt number) (heading_fault line.now number)
 
 -- `read_order`: grower from 1 to 9,999, ready and due from 0 to 999,999
-module _ (κs : Lfts 1) (line : Bor (List ℕ)) (answer : OrderRead) (after : _) (learnt : read_order.Learnt κs (line, tt) answer after) where
-  pub order_read_exactly : (values : Order) → (answer ≡ order.Read values) ↔ OrderReads line.now values
-  order_read_exactly values = Iff.trans (answered_exactly as_order order_told answer _ learnt) (order_reads line.now values)
+module _ (κs : Lfts 1) (line : Bor (List ℕ)) (answer : Result Order Refusal) (after : _) (learnt : read_order.Learnt κs (line, tt) answer after) where
+  pub order_read_exactly : (values : Order) → (answer ≡ Ok values) ↔ OrderReads line.now values
+  order_read_exactly values = Iff.trans (answered_exactly as_read answers_told answer _ learnt) (order_reads line.now values)
 
-  pub order_refused_exactly : (number : ℕ) → (answer ≡ order.Refused number) ↔ OrderFault line.now number
-  order_refused_exactly number = Iff.trans (answered_exactly as_order order_told answer _ learnt) (order_fault line.now number)
+  pub order_refused_exactly : (number : ℕ) → ((refusal : Refusal) × (answer ≡ Err refusal) × (refusal_number refusal ≡ number)) ↔ OrderFault line.now number
+  order_refused_exactly number = Iff.trans (refused_by answer learnt number) (order_fault line.now number)
 
 -- `read_load`: order line from 0 to 9,999, chamber from 1 to the list's count, start from 0 to 999,999
 module _
     (κs : Lfts 1)
     (line : Bor (List ℕ))
     (count : ℕ)
-    (answer : LoadRead)
+    (answer : Result Load Refusal)
     (after : _)
     (learnt : read_load.Learnt κs (line, (count, tt)) answer after)
   where
-    pub load_read_exactly : (values : Load) → (answer ≡ load.Read values) ↔ LoadReads count line.now values
-    load_read_exactly values = Iff.trans (answered_exactly as_load load_told answer _ learnt) (load_reads count line.now values)
+    pub load_read_exactly : (values : Load) → (answer ≡ Ok values) ↔ LoadReads count line.now values
+    load_read_exactly values = Iff.trans (answered_exactly as_read answers_told answer _ learnt) (load_reads count line.now values)
 
-    pub load_refused_exactly : (number : ℕ) → (answer ≡ load.Refused number) ↔ LoadFault count line.now number
-    load_refused_exactly number = Iff.trans (answered_exactly as_load load_told answer _ learnt) (load_fault count line.now number)
+    pub load_refused_exactly : (number : ℕ) → ((refusal : Refusal) × (answer ≡ Err refusal) × (refusal_number refusal ≡ number)) ↔ LoadFault count line.now number
+    load_refused_exactly number = Iff.trans (refused_by answer learnt number) (load_fault count line.now number)
 
 -- 1d: each public function's contract admits a single outcome
 pub read_heading_single : (κs : Lfts 1) (line : Bor (List ℕ)) (after : _) → Single (λ answer. read_heading.Learnt κs (line, tt) answer after)
-read_heading_single κs line after = single_answer as_heading heading_told (heading_of line.now)
+read_heading_single κs line after = single_answer as_read answers_told (heading_of line.now)
 
 pub read_order_single : (κs : Lfts 1) (line : Bor (List ℕ)) (after : _) → Single (λ answer. read_order.Learnt κs (line, tt) answer after)
-read_order_single κs line after = single_answer as_order order_told (order_of line.now)
+read_order_single κs line after = single_answer as_read answers_told (order_of line.now)
 
 pub read_load_single :
     (κs : Lfts 1) (line : Bor (List ℕ)) (count : ℕ) (after : _) → Single (λ answer. read_load.Learnt κs (line, (count, tt)) answer after)
-read_load_single κs line count after = single_answer as_load load_told (load_of count line.now)
+read_load_single κs line count after = single_answer as_read answers_told (load_of count line.now)
 
 -- 1a: no public function asks anything of what it is passed
 pub nothing_asked :

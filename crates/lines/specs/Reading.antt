@@ -1,6 +1,6 @@
 -- How the lines of lists and plans are read: "A line: 1 first, then its fields from the left, each 2 or 3 and then 4." Assumes nothing.
 use Rattle.std.specs.Prelude.{ℕ, List, [], ◌∷◌, length, get_or}
-use Rattle.ground.specs.Refusal.{Read, wrong, right, check, ◌>>=◌, ◌>>◌}
+use Rattle.ground.specs.Refusal.{Read, right, check, ◌>>=◌, ◌>>◌}
 use Rattle.ground.specs.Range.{within}
 use Rattle.ground.specs.Limits.{last_hour, most_chambers, longest_run, last_plain}
 use Rattle.ground.specs.Text.{bytes}
@@ -10,12 +10,6 @@ use Rattle.fields.specs.Fields.{fields_of, same_bytes, shape_of}
 use Rattle.lines.specs.declared.Heading.{Heading}
 use Rattle.lines.specs.declared.Order.{Order}
 use Rattle.lines.specs.declared.Load.{Load}
-use Rattle.lines.specs.declared.HeadingRead.{HeadingRead}
-use Rattle.lines.specs.declared.HeadingRead.TheVariants as heading
-use Rattle.lines.specs.declared.OrderRead.{OrderRead}
-use Rattle.lines.specs.declared.OrderRead.TheVariants as order
-use Rattle.lines.specs.declared.LoadRead.{LoadRead}
-use Rattle.lines.specs.declared.LoadRead.TheVariants as load
 
 -- "grower (1 to 9,999)"
 abbrev pub last_grower : ℕ
@@ -90,16 +84,3 @@ unfoldable pub load_of : ℕ → List ℕ → Read Load
 load_of count line = do
   numbers ← line_of 3 (load_readers count) line
   right (record { order = get_or numbers 0 0; chamber = get_or numbers 1 0; start = get_or numbers 2 0 })
-
--- the paper's number and values for each case of an answer
-abbrev pub as_heading : HeadingRead → Read Heading
-as_heading (heading.Read values) = right values
-as_heading (heading.Refused number) = wrong number
-
-abbrev pub as_order : OrderRead → Read Order
-as_order (order.Read values) = right values
-as_order (order.Refused number) = wrong number
-
-abbrev pub as_load : LoadRead → Read Load
-as_load (load.Read values) = right values
-as_load (load.Refused number) = wrong number

@@ -1,12 +1,17 @@
 -- What the private steps of the line readers come to. The public definitions do not rest on it. Assumes nothing.
-use Rattle.std.specs.Prelude.{ℕ, cond, eqb}
-use Rattle.ground.specs.Refusal.{Read, wrong, right}
-use Rattle.lines.specs.declared.FieldRead.{FieldRead}
+use Rattle.std.specs.Prelude.{ℕ, List, [], ◌∷◌, Result, Ok, Err}
+use Rattle.std.specs.Borrow.{Bor}
+use Rattle.ground.specs.declared.Refusal.{Refusal}
+use Rattle.ground.specs.Refusal.{Read, wrong, right, refusal_number, ◌>>◌}
+use Rattle.fields.specs.Fields.{fields_of, shape_of}
 
--- what one field comes to
-abbrev pub as_field : FieldRead → Read ℕ
-as_field field = cond (eqb field.refusal 0) (right field.number) (wrong field.refusal)
+-- the texts of three fields, or the refusal's number
+abbrev pub as_texts : Result (Bor (List ℕ) × Bor (List ℕ) × Bor (List ℕ)) Refusal → Read (List (List ℕ))
+as_texts (Ok fields) = right (fields.0.now ∷ fields.1.now ∷ fields.2.now ∷ [])
+as_texts (Err refusal) = wrong (refusal_number refusal)
 
--- the first of two refusals
-abbrev pub first : ℕ → ℕ → ℕ
-first earlier later = cond (eqb earlier 0) later earlier
+-- the fields of a line of three, or refusal 1
+unfoldable pub three_of : List ℕ → Read (List (List ℕ))
+three_of line = do
+  shape_of 3 3 line
+  right (fields_of line)

@@ -3,27 +3,26 @@
 #![tactic(auto)]
 
 ghost use Rattle.std.specs.Prelude.{◌≡◌};
-ghost use Rattle.ground.specs.Range.{within};
-ghost use Rattle.lines.specs.Reading.{steam_at, ranged, plain_within, hour_within};
-ghost use Rattle.lines.specs.Reading.{heading_of, order_of, load_of, as_heading, as_order, as_load};
-ghost use Rattle.lines.specs.Steps.{as_field, first};
+ghost use Rattle.ground.specs.Refusal.{as_read};
+ghost use Rattle.lines.specs.Reading.{ranged, heading_of, order_of, load_of};
+ghost use Rattle.lines.specs.Steps.{as_texts, three_of};
 
-use fields::{cut_line, field};
-use ground::{LAST_HOUR, LAST_PLAIN, LONGEST_RUN, MOST_CHAMBERS};
-use hours::{HourRead, PlainRead};
+use fields::{cut_line, field, same_bytes};
+use ground::{LAST_HOUR, LAST_PLAIN, LONGEST_RUN, MOST_CHAMBERS, Refusal, check, within};
+use hours::{read_hour, read_plain};
 
 // The last number that a grower can have.
 pub const LAST_GROWER: u32 = 9_999;
 
 // The first line of a list.
-#[derive(Clone, Copy)]
+#[derive(Clone, Copy, Debug, PartialEq, Eq)]
 pub struct Heading {
     pub chambers: u32,
     pub run: u32,
 }
 
 // An order of a list.
-#[derive(Clone, Copy)]
+#[derive(Clone, Copy, Debug, PartialEq, Eq)]
 pub struct Order {
     pub grower: u32,
     pub ready: u32,
@@ -31,174 +30,71 @@ pub struct Order {
 }
 
 // A load of a plan: its order's line number in the list, its chamber and its start.
-#[derive(Clone, Copy)]
+#[derive(Clone, Copy, Debug, PartialEq, Eq)]
 pub struct Load {
     pub order: u32,
     pub chamber: u32,
     pub start: u32,
 }
 
-// What a first line reads as, or the refusal's number.
-#[derive(Clone, Copy)]
-pub enum HeadingRead {
-    Read(Heading),
-    Refused(u32),
-}
-
-// What an order line reads as, or the refusal's number.
-#[derive(Clone, Copy)]
-pub enum OrderRead {
-    Read(Order),
-    Refused(u32),
-}
-
-// What a plan line reads as, or the refusal's number.
-#[derive(Clone, Copy)]
-pub enum LoadRead {
-    Read(Load),
-    Refused(u32),
-}
-
-// What one field reads as: its number, and the refusal's number or 0.
-#[derive(Clone, Copy)]
-struct FieldRead {
-    refusal: u32,
-    number: u32,
-}
-
-// A number in its range, or refusal 4.
-fn ranged(number: u32, low: u32, high: u32) -> FieldRead
-    ensures { as_field result ≡ ranged low high number }
+// A number in its range, or the refusal that it is out of it.
+#[tactic(auto, unfolding(crate::specs::Reading::ranged))]
+fn ranged(number: u32, low: u32, high: u32) -> Result<u32, Refusal>
+    ensures { as_read result ≡ ranged low high number }
 {
-    if number < low {
-        return FieldRead {
-            refusal: 4,
-            number: 0,
-        };
-    }
-    if high < number {
-        return FieldRead {
-            refusal: 4,
-            number: 0,
-        };
-    }
-    FieldRead { refusal: 0, number }
+    check(within(low, high, number), Refusal::OutOfRange)?;
+    Ok(number)
 }
 
-// A field as a plain number in a range.
-fn plain_in(text: &[u8], low: u32, high: u32) -> FieldRead
-    ensures { as_field result ≡ plain_within low high text.now }
-{
-    match hours::read_plain(text) {
-        PlainRead::Number(number) => ranged(number, low, high),
-        PlainRead::Refused(refusal) => FieldRead { refusal, number: 0 },
-    }
-}
-
-// A field as an hour in a range.
-fn hour_in(text: &[u8], low: u32, high: u32) -> FieldRead
-    ensures { as_field result ≡ hour_within low high text.now }
-{
-    match hours::read_hour(text) {
-        HourRead::Hour(hour) => ranged(hour, low, high),
-        HourRead::Refused(refusal) => FieldRead { refusal, number: 0 },
-    }
-}
-
-// The word of a list's first line, or refusal 1.
-fn steam_in(text: &[u8]) -> FieldRead
-    ensures { as_field result ≡ steam_at text.now }
-{
-    if fields::same_bytes(text, b"steam") {
-        return FieldRead {
-            refusal: 0,
-            number: 0,
-        };
-    }
-    FieldRead {
-        refusal: 1,
-        number: 0,
-    }
-}
-
-// Whether a line has as many fields as it should.
-fn shaped(count: usize, least: usize, most: usize) -> bool
-    ensures { result ≡ within least most count }
-{
-    (least <= count) & (count <= most)
-}
-
-// The first of two refusals, or 0 where there is none.
-fn first(earlier: u32, later: u32) -> u32
-    ensures { result ≡ first earlier later }
-{
-    if earlier == 0 { later } else { earlier }
-}
-
-// The first line of a list: refusal 1 for its shape or its word, then its fields from the left.
-pub fn read_heading(line: &[u8]) -> HeadingRead
-    ensures { as_heading result ≡ heading_of line.now }
+// The three fields of a line, or the refusal that it has not this shape.
+#[tactic(auto, using(crate::proofs::LineReading::three_by_cut))]
+fn three_of(line: &[u8]) -> Result<(&[u8], &[u8], &[u8]), Refusal>
+    ensures { as_texts result ≡ three_of line.now }
 {
     let cut = cut_line(line);
-    if !shaped(cut.count, 3, 3) {
-        return HeadingRead::Refused(1);
-    }
-    let word = steam_in(field(line, cut, 0));
-    let chambers = plain_in(field(line, cut, 1), 1, MOST_CHAMBERS);
-    let run = hour_in(field(line, cut, 2), 1, LONGEST_RUN);
-    let refusal = first(word.refusal, chambers.refusal);
-    let refusal = first(refusal, run.refusal);
-    if refusal != 0 {
-        return HeadingRead::Refused(refusal);
-    }
-    HeadingRead::Read(Heading {
-        chambers: chambers.number,
-        run: run.number,
+    check(cut.count == 3, Refusal::Misshapen)?;
+    Ok((
+        field(line, cut, 0),
+        field(line, cut, 1),
+        field(line, cut, 2),
+    ))
+}
+
+// The first line of a list: refused for its shape or its word, then by its fields from the left.
+#[tactic(auto, using(crate::proofs::LineReading::by_fields), unfolding(crate::specs::Reading::heading_of, crate::specs::Reading::read_all))]
+pub fn read_heading(line: &[u8]) -> Result<Heading, Refusal>
+    ensures { as_read result ≡ heading_of line.now }
+{
+    let (word, chambers, run) = three_of(line)?;
+    check(same_bytes(word, b"steam"), Refusal::Misshapen)?;
+    Ok(Heading {
+        chambers: ranged(read_plain(chambers)?, 1, MOST_CHAMBERS)?,
+        run: ranged(read_hour(run)?, 1, LONGEST_RUN)?,
     })
 }
 
-// An order line: refusal 1 for its shape, then its fields from the left.
-pub fn read_order(line: &[u8]) -> OrderRead
-    ensures { as_order result ≡ order_of line.now }
+// An order line: refused for its shape, then by its fields from the left.
+#[tactic(auto, using(crate::proofs::LineReading::by_fields), unfolding(crate::specs::Reading::order_of, crate::specs::Reading::read_all))]
+pub fn read_order(line: &[u8]) -> Result<Order, Refusal>
+    ensures { as_read result ≡ order_of line.now }
 {
-    let cut = cut_line(line);
-    if !shaped(cut.count, 3, 3) {
-        return OrderRead::Refused(1);
-    }
-    let grower = plain_in(field(line, cut, 0), 1, LAST_GROWER);
-    let ready = hour_in(field(line, cut, 1), 0, LAST_HOUR);
-    let due = hour_in(field(line, cut, 2), 0, LAST_HOUR);
-    let refusal = first(grower.refusal, ready.refusal);
-    let refusal = first(refusal, due.refusal);
-    if refusal != 0 {
-        return OrderRead::Refused(refusal);
-    }
-    OrderRead::Read(Order {
-        grower: grower.number,
-        ready: ready.number,
-        due: due.number,
+    let (grower, ready, due) = three_of(line)?;
+    Ok(Order {
+        grower: ranged(read_plain(grower)?, 1, LAST_GROWER)?,
+        ready: ranged(read_hour(ready)?, 0, LAST_HOUR)?,
+        due: ranged(read_hour(due)?, 0, LAST_HOUR)?,
     })
 }
 
-// A plan line, for a list with so many chambers: refusal 1 for its shape, then its fields from the left.
-pub fn read_load(line: &[u8], count: u32) -> LoadRead
-    ensures { as_load result ≡ load_of count line.now }
+// A plan line, for a list with so many chambers: refused for its shape, then by its fields from the left.
+#[tactic(auto, using(crate::proofs::LineReading::by_fields), unfolding(crate::specs::Reading::load_of, crate::specs::Reading::read_all))]
+pub fn read_load(line: &[u8], count: u32) -> Result<Load, Refusal>
+    ensures { as_read result ≡ load_of count line.now }
 {
-    let cut = cut_line(line);
-    if !shaped(cut.count, 3, 3) {
-        return LoadRead::Refused(1);
-    }
-    let order = plain_in(field(line, cut, 0), 0, LAST_PLAIN);
-    let chamber = plain_in(field(line, cut, 1), 1, count);
-    let start = hour_in(field(line, cut, 2), 0, LAST_HOUR);
-    let refusal = first(order.refusal, chamber.refusal);
-    let refusal = first(refusal, start.refusal);
-    if refusal != 0 {
-        return LoadRead::Refused(refusal);
-    }
-    LoadRead::Read(Load {
-        order: order.number,
-        chamber: chamber.number,
-        start: start.number,
+    let (order, chamber, start) = three_of(line)?;
+    Ok(Load {
+        order: ranged(read_plain(order)?, 0, LAST_PLAIN)?,
+        chamber: ranged(read_plain(chamber)?, 1, count)?,
+        start: ranged(read_hour(start)?, 0, LAST_HOUR)?,
     })
 }

@@ -13,7 +13,7 @@ ghost use Rattle.orders.specs.Steps.{line_after};
 
 use book::{Answer, Book};
 use ground::LONGEST_TEXT;
-use lines::{Heading, HeadingRead, Order, OrderRead, read_heading, read_order};
+use lines::{Heading, Order, read_heading, read_order};
 use texts::{line_at, line_end};
 
 // The last number that a line can be counted by.
@@ -88,8 +88,8 @@ pub fn begin(text: &[u8]) -> Begun
         return not_begun(0, 9);
     }
     match read_heading(line_at(text, 0)) {
-        HeadingRead::Read(heading) => begun_with(text, heading),
-        HeadingRead::Refused(number) => not_begun(1, number),
+        Ok(heading) => begun_with(text, heading),
+        Err(refusal) => not_begun(1, refusal.number()),
     }
 }
 
@@ -149,7 +149,7 @@ pub fn next(text: &[u8], progress: Progress) -> Step
     let line = line_at(text, at);
     let end = at + line.len();
     match read_order(line) {
-        OrderRead::Read(order) => booked(end, progress, order),
-        OrderRead::Refused(number) => passed(end, progress, number),
+        Ok(order) => booked(end, progress, order),
+        Err(refusal) => passed(end, progress, refusal.number()),
     }
 }

@@ -13,7 +13,7 @@ ghost use Rattle.plans.specs.Steps.{orders_left, OrdersAre, orders_from, Loaded}
 
 use book::{Answer, Book};
 use ground::{LONGEST_TEXT, MOST_CHAMBERS, MOST_ORDERS};
-use lines::{Load, LoadRead, read_load};
+use lines::{Load, read_load};
 use loads::{load_refusal, overlap, place_of};
 use orders::{Progress, begin, next};
 use texts::{line_end, part};
@@ -136,9 +136,9 @@ fn note_load(line: &[u8], book: Book, readies: &[u32], dues: &[u32], lines: &[u3
         line.now result }
 {
     match read_load(line, book.chambers) {
-        LoadRead::Read(load) => checked(load, book.run, readies, dues, lines),
-        LoadRead::Refused(number) => LoadNoted {
-            refusal: number,
+        Ok(load) => checked(load, book.run, readies, dues, lines),
+        Err(refusal) => LoadNoted {
+            refusal: refusal.number(),
             load: Load {
                 order: 0,
                 chamber: 0,

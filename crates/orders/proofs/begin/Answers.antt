@@ -10,12 +10,12 @@ use Rattle.orders.proofs.begin.Goals as goal
 pub returns-then-text-gt-LONGEST_TEXT : goal.returns-then-text-gt-LONGEST_TEXT
 returns-then-text-gt-LONGEST_TEXT c = rw (too_long c.args.text.now (omega (arith, c.if-text-gt-LONGEST_TEXT.true))) c.not_begun.ensures
 
-pub returns-in-Read : goal.returns-in-Read
-returns-in-Read c =
-    let opens : heading_of (line_at c.args.text.now 0) ≡ right c.in-Read.heading = rw (← c.line_at.ensures.result_value, ← c.read_heading.ensures, c.in-Read.is) in
+pub returns-in-Ok : goal.returns-in-Ok
+returns-in-Ok c =
+    let opens : heading_of (line_at c.args.text.now 0) ≡ right c.in-Ok.heading = rw (← c.line_at.ensures.result_value, ← c.read_heading.ensures, c.in-Ok.is) in
     rw (heading_right c.args.text.now (omega (arith, c.if-text-gt-LONGEST_TEXT.false)) _ opens) c.begun_with.ensures
 
-pub returns-in-Refused : goal.returns-in-Refused
-returns-in-Refused c =
-    let refused : heading_of (line_at c.args.text.now 0) ≡ wrong c.in-Refused.number = rw (← c.line_at.ensures.result_value, ← c.read_heading.ensures, c.in-Refused.is) in
-    rw (heading_wrong c.args.text.now (omega (arith, c.if-text-gt-LONGEST_TEXT.false)) _ refused, first_line_refused _ _ refused) c.not_begun-in-Refused.ensures
+pub returns-in-Err : goal.returns-in-Err
+returns-in-Err c =
+    let refused : heading_of (line_at c.args.text.now 0) ≡ wrong c.number.result = rw (← c.line_at.ensures.result_value, ← c.read_heading.ensures, c.in-Err.is, c.number.ensures) in
+    rw (heading_wrong c.args.text.now (omega (arith, c.if-text-gt-LONGEST_TEXT.false)) _ refused, first_line_refused _ _ refused) c.not_begun-in-Err.ensures

@@ -8,22 +8,22 @@ overflow_add-end c =
     let start = c.args in
     rw c.line_at-line.ensures.result_value (omega (arith, past_is start.text.now start.progress.at, not_beyond start.text.now start.progress.at))
 
-pub returns-in-Read : goal.returns-in-Read
-returns-in-Read c =
+pub returns-in-Ok : goal.returns-in-Ok
+returns-in-Ok c =
     let line = c.line_at-line.ensures.result_value in
-    let reads = c.in-Read.is in
+    let reads = c.in-Ok.is in
     record {
       read = rw (← line, ← c.read_order.ensures, reads) c.booked.ensures.0;
       said = rw (← line, ← c.read_order.ensures, reads) c.booked.ensures.1;
       next = rw (← past_is _ _, ← line, ← c.read_order.ensures, reads) c.booked.ensures.2;
     }
 
-pub returns-in-Refused : goal.returns-in-Refused
-returns-in-Refused c =
+pub returns-in-Err : goal.returns-in-Err
+returns-in-Err c =
     let line = c.line_at-line.ensures.result_value in
-    let reads = c.in-Refused.is in
+    let reads = c.in-Err.is in
     record {
       read = rw (← line, ← c.read_order.ensures, reads) c.passed.ensures.0;
-      said = rw (← line, ← c.read_order.ensures, reads) c.passed.ensures.1;
+      said = rw (← line, ← c.read_order.ensures, reads, ← c.number.ensures) c.passed.ensures.1;
       next = rw (← past_is _ _, ← line, ← c.read_order.ensures, reads) c.passed.ensures.2;
     }
