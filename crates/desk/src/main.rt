@@ -72,10 +72,8 @@ fn print(text: &[u8]) -> bool {
 fn lost(reply: Reply) -> Reply
     ensures { result.over ≡ true }
 {
-    let progress = reply.progress;
     Reply {
-        refusal: reply.refusal,
-        progress,
         over: true,
+        ..reply
     }
 }

@@ -1,6 +1,6 @@
 -- How a list begins: its length, its first line and its book. Assumes nothing.
 use Prim.Native.Nat.{ℕ, ◌≤◌, ◌<◌}
-use mathlib.Core.Path.{◌≡◌, refl, sym, ap, ◌∙◌}
+use mathlib.Core.Path.{◌≡◌, sym, ap, ◌∙◌}
 use mathlib.Core.Logic.{◌↔◌}
 use mathlib.Core.List.{List}
 use lib.ListN.{length}
@@ -16,15 +16,11 @@ use Rattle.lines.specs.Reading.{heading_of}
 use Rattle.lines.specs.declared.Heading.{Heading}
 use Rattle.lines.specs.Meaning.{HeadingFault}
 use Rattle.lines.proofs.Promises.{heading_fault, heading_ranges, line_fault_from}
-use Rattle.book.specs.Soundness.{fresh_book, opened}
+use Rattle.book.specs.Soundness.{opened}
 use Rattle.book.specs.declared.Book.{Book}
 use Rattle.book.proofs.Promises.{opened_fresh}
 use Rattle.orders.specs.Answers.{book_for, opening, refused_line, begun_with, begun_by}
-
--- a book that is not opened has every field 0
-pub unopened : (opened 0 0).book ≡ fresh_book 0 0
-unfolding opened
-unopened = refl
+use Rattle.orders.specs.declared.Progress.{Progress}
 
 -- the numbers of a first line open a fresh book
 pub heading_opens : (line : List ℕ) (heading : Heading) → heading_of line ≡ right heading → (opened heading.chambers heading.run).book ≡ book_for heading
@@ -114,22 +110,27 @@ module _ (text : List ℕ) where
     λ facts. heading_wrong facts.0 number ((heading_fault (line_at text 0) number).1 facts.1),
   )
 
-  -- a list that begins is refused by none, and one that does not is refused by its number
-  pub begun_wrong : ((begun_by text (opening text)).refusal ≡ 0 → ⊥) → opening text ≡ wrong (begun_by text (opening text)).refusal
-  begun_wrong some = go (opening text) some
+  -- a list that does not begin is refused by its number at the line refused
+  pub begun_wrong :
+      (number line : ℕ) → begun_by text (opening text) ≡ wrong (number, line) → (opening text ≡ wrong number) × (line ≡ refused_line number)
+  begun_wrong number line refused = go (opening text) refused
     where
-      go : (read : Read Book) → ((begun_by text read).refusal ≡ 0 → ⊥) → read ≡ wrong (begun_by text read).refusal
-      go (wrong number) some = refl
-      go (right book) some = absurd (some refl)
+      go : (read : Read Book) → begun_by text read ≡ wrong (number, line) → (read ≡ wrong number) × (line ≡ refused_line number)
+      go (wrong other) refused =
+          let same = same_wrong refused in
+          let numbers : other ≡ number = ap (λ pair. pair.0) same in
+          (ap wrong numbers, sym (ap (λ pair. pair.1) same) ∙ ap refused_line numbers)
+      go (right book) refused = absurd (never_right (sym refused))
 
-  -- which is never 0
-  pub begun_right : (begun_by text (opening text)).refusal ≡ 0 → (book : Book) × (opening text ≡ right book) × (begun_by text (opening text) ≡ begun_with text book)
-  begun_right none = go (opening text) refl none
+  -- and one that begins is where its book begins
+  pub begun_right :
+      (progress : Progress) → begun_by text (opening text) ≡ right progress
+      → (opening text ≡ right progress.book) × (progress ≡ begun_with text progress.book)
+  begun_right progress begun = go (opening text) begun
     where
-      go :
-          (read : Read Book) → opening text ≡ read → (begun_by text read).refusal ≡ 0
-          → (book : Book) × (opening text ≡ right book) × (begun_by text read ≡ begun_with text book)
-      go (wrong number) refused none =
-          let fault = ((refused_by_its_first_line number (λ nine. omega (arith, nine, none))).0 refused).1 in
-          absurd (omega (arith, none, (line_fault_from fault).0))
-      go (right book) begun none = (book, begun, refl)
+      go : (read : Read Book) → begun_by text read ≡ right progress → (read ≡ right progress.book) × (progress ≡ begun_with text progress.book)
+      go (wrong number) begun = absurd (never_right begun)
+      go (right book) begun =
+          let same : begun_with text book ≡ progress = same_right begun in
+          let books : book ≡ progress.book = ap (λ (one : Progress). one.book) same in
+          (ap right books, sym same ∙ ap (begun_with text) books)

@@ -9,8 +9,12 @@ use native.Mathlib.Omega.{arith}
 use borrow.Author.Tests.{eqb-true, eq-eqb}
 use contract.Lifetimes.{Lfts}
 use denote.Ref.{Bor}
+use Rattle.std.specs.Prelude.{Result, Ok, Err}
 use Rattle.ground.specs.Refusal.{Read, wrong, right}
-use Rattle.ground.proofs.Checks.{never_right, same_right}
+use Rattle.ground.specs.Outcome.{Injective}
+use Rattle.ground.specs.declared.Refusal.TheVariants.{TooLong}
+use Rattle.ground.proofs.Checks.{never_right, same_right, same_wrong}
+use Rattle.ground.proofs.Refusals.{refusals_told}
 use Rattle.ground.proofs.Tests.{by_test, never_both}
 use Rattle.texts.specs.Lines.{line_at, past_line}
 use Rattle.texts.proofs.Lines.{past_is}
@@ -21,13 +25,25 @@ use Rattle.lines.proofs.Promises.{heading_reads, heading_ranges, heading_fault}
 use Rattle.book.specs.Meaning.{Sound}
 use Rattle.book.specs.declared.Book.{Book}
 use Rattle.book.proofs.Soundness.{fresh_sound}
-use Rattle.orders.specs.Answers.{book_for, opening, not_begun, begun_by}
+use Rattle.orders.specs.Answers.{book_for, opening, as_begun, not_begun, begun_by}
 use Rattle.orders.specs.Meaning.{FirstOf}
 use Rattle.orders.specs.History.{new_book}
-use Rattle.orders.specs.declared.Begun.{Begun}
+use Rattle.orders.specs.declared.NotBegun.{NotBegun}
+use Rattle.orders.specs.declared.Progress.{Progress}
 use Rattle.orders.proofs.Beginning.{too_long, heading_right, heading_wrong, opened_within, first_line_refused, refused_by_nine, refused_by_its_first_line}
 use Rattle.orders.proofs.FirstLines.{first_only}
 use Rattle.orders.proofs.begin.Reads as begin
+
+-- different beginnings never read the same
+pub begun_told : Injective as_begun
+begun_told (Ok one) (Ok other) same = ap Ok (same_right same)
+begun_told (Ok one) (Err other) same = absurd (never_right (sym same))
+begun_told (Err one) (Ok other) same = absurd (never_right same)
+begun_told (Err one) (Err other) same =
+    let both = same_wrong same in
+    let refusals : one.refusal ≡ other.refusal = refusals_told one.refusal other.refusal (ap (λ pair. pair.0) both) in
+    let lines : one.line ≡ other.line = ap (λ pair. pair.1) both in
+    λ i. Err (record { refusal = refusals i; line = lines i })
 
 -- the numbers of a first line are those of a sound book
 pub heading_sound : (line : List ℕ) (heading : Heading) → HeadingReads line heading → Sound (new_book heading.chambers heading.run)
@@ -72,16 +88,14 @@ module _ (text first : List ℕ) (further : List (List ℕ)) (cut : FirstOf text
         (λ p. heading_wrong text p.0 number ((heading_fault (line_at text 0) number).1 (rw at_top at p.1))),
   )
 
-module _ (κs : Lfts 1) (text : Bor (List ℕ)) (begun : Begun) (after : _) (learnt : begin.Learnt κs (text, tt) begun after) where
+module _ (κs : Lfts 1) (text : Bor (List ℕ)) (begun : Result Progress NotBegun) (after : _) (learnt : begin.Learnt κs (text, tt) begun after) where
   -- a list that is too long
-  pub begun_too_long :
-      65_536 < length text.now → begun ≡ record { refusal = 9; progress = record { at = 0; line = 0; book = new_book 0 0 } }
-  begun_too_long over = learnt ∙ ap (begun_by text.now) (too_long text.now over)
+  pub begun_too_long : 65_536 < length text.now → begun ≡ Err (record { refusal = TooLong; line = 0 })
+  begun_too_long over = begun_told begun (Err (record { refusal = TooLong; line = 0 })) (learnt ∙ ap (begun_by text.now) (too_long text.now over))
 
   module _ (first : List ℕ) (further : List (List ℕ)) (cut : FirstOf text.now first further) (within : length text.now ≤ 65_536) where
     -- one whose first line is at fault
-    pub begun_at_fault :
-        (number : ℕ) → HeadingFault first number → begun ≡ record { refusal = number; progress = record { at = 0; line = 1; book = new_book 0 0 } }
+    pub begun_at_fault : (number : ℕ) → HeadingFault first number → as_begun begun ≡ wrong (number, 1)
     begun_at_fault number fault =
         let refused : heading_of (line_at text.now 0) ≡ wrong number =
         (heading_fault (line_at text.now 0) number).1 (rw (first_only text.now 0 cut).0 at fault) in
@@ -91,10 +105,10 @@ module _ (κs : Lfts 1) (text : Bor (List ℕ)) (begun : Begun) (after : _) (lea
     -- and one that begins
     pub begun_reading :
         (heading : Heading) → HeadingReads first heading
-        → begun
-        ≡ record { refusal = 0; progress = record { at = length first; line = 2; book = new_book heading.chambers heading.run } }
+        → begun ≡ Ok (record { at = length first; line = 2; book = new_book heading.chambers heading.run })
     begun_reading heading reads =
         let line = (first_only text.now 0 cut).0 in
         let place : past_line text.now 0 ≡ length first = rw line (omega (arith, past_is text.now 0)) in
-        learnt ∙ ap (begun_by text.now) (heading_right text.now within heading (rw line at ((heading_reads first heading).1 reads)))
-        ∙ (λ i. record { refusal = 0; progress = record { at = place i; line = 2; book = book_for heading } })
+        begun_told begun (Ok (record { at = length first; line = 2; book = new_book heading.chambers heading.run }))
+        (learnt ∙ ap (begun_by text.now) (heading_right text.now within heading (rw line at ((heading_reads first heading).1 reads)))
+        ∙ ap right (λ i. record { at = place i; line = 2; book = book_for heading }))

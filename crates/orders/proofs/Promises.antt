@@ -9,9 +9,11 @@ use lib.ListN.{length, get_or, drop}
 use native.Mathlib.Omega.{arith}
 use contract.Lifetimes.{Lfts}
 use denote.Ref.{Bor}
+use Rattle.std.specs.Prelude.{Result, Ok, Err}
 use Rattle.ground.specs.Refusal.{Read, wrong, right}
-use Rattle.ground.specs.Outcome.{Single}
-use Rattle.ground.proofs.Outcome.{single_answer, single_value}
+use Rattle.ground.specs.Outcome.{Injective, Single}
+use Rattle.ground.specs.declared.Refusal.TheVariants.{TooLong}
+use Rattle.ground.proofs.Outcome.{single_answer}
 use Rattle.texts.specs.Lines.{lines_of, line_length, line_at}
 use Rattle.texts.specs.Meaning.{joined, AreLines}
 use Rattle.fields.specs.Fields.{is_ended, shape_of}
@@ -27,10 +29,10 @@ use Rattle.book.specs.declared.Answer.{Answer}
 use Rattle.book.specs.declared.Answer.TheVariants.{No, Refused}
 use Rattle.book.proofs.Promises.{answer_told}
 use Rattle.book.proofs.Book.take.Reads as take
-use Rattle.orders.specs.Answers.{book_for, opening, order_lines, answers_from, book_after, decision, book_past, refusals, yeses, begun_by}
+use Rattle.orders.specs.Answers.{book_for, opening, order_lines, answers_from, book_after, decision, book_past, refusals, yeses, as_begun, begun_by}
 use Rattle.orders.specs.Meaning.{HasLines, FirstOf, of_lines, CleanOrders, CleanList, OrderWrong}
 use Rattle.orders.specs.History.{new_book, Answers, Counts}
-use Rattle.orders.specs.declared.Begun.{Begun}
+use Rattle.orders.specs.declared.NotBegun.{NotBegun}
 use Rattle.orders.specs.declared.Progress.{Progress}
 use Rattle.orders.specs.declared.Step.{Step}
 use Rattle.orders.proofs.Places as places
@@ -83,24 +85,25 @@ pub refused_empty : opening [] ≡ wrong 1
 unfolding opening heading_of line_of shape_of is_ended line_at line_length
 refused_empty = refl
 
+-- different beginnings never read the same: the refusal's number, and the line refused, tell what is refused
+pub begun_told : Injective as_begun
+begun_told = openings.begun_told
+
 -- Any text, and whatever `begin` admits.
-module _ (κs : Lfts 1) (text : Bor (List ℕ)) (begun : Begun) (after : _) (learnt : begin.Learnt κs (text, tt) begun after) where
-  -- 1b, 1c: a text longer than 65,536 bytes is refused by 9 at line 0, with a book of every field 0
-  pub begin_too_long :
-      65_536 < length text.now → begun ≡ record { refusal = 9; progress = record { at = 0; line = 0; book = new_book 0 0 } }
+module _ (κs : Lfts 1) (text : Bor (List ℕ)) (begun : Result Progress NotBegun) (after : _) (learnt : begin.Learnt κs (text, tt) begun after) where
+  -- 1b, 1c: a text longer than 65,536 bytes is refused by 9 at line 0
+  pub begin_too_long : 65_536 < length text.now → begun ≡ Err (record { refusal = TooLong; line = 0 })
   begin_too_long = openings.begun_too_long κs text begun after learnt
 
   module _ (first : List ℕ) (further : List (List ℕ)) (cut : FirstOf text.now first further) (within : length text.now ≤ 65_536) where
-    -- one whose first line is at fault is refused by that at line 1, with a book of every field 0
-    pub begin_at_fault :
-        (number : ℕ) → HeadingFault first number → begun ≡ record { refusal = number; progress = record { at = 0; line = 1; book = new_book 0 0 } }
+    -- one whose first line is at fault is refused by that at line 1
+    pub begin_at_fault : (number : ℕ) → HeadingFault first number → as_begun begun ≡ wrong (number, 1)
     begin_at_fault = openings.begun_at_fault κs text begun after learnt first further cut within
 
-    -- and one whose first line reads begins: no refusal, the place past that line, line 2, and a fresh book
+    -- and one whose first line reads begins: the place past that line, line 2, and a fresh book
     pub begin_reading :
         (heading : Heading) → HeadingReads first heading
-        → begun
-        ≡ record { refusal = 0; progress = record { at = length first; line = 2; book = new_book heading.chambers heading.run } }
+        → begun ≡ Ok (record { at = length first; line = 2; book = new_book heading.chambers heading.run })
     begin_reading = openings.begun_reading κs text begun after learnt first further cut within
 
 -- Any text, any progress, and whatever `next` admits.
@@ -295,7 +298,7 @@ refused_by_its_fault line heading reads = clean.behind_clean line heading ((head
 
 -- 1d: each public function's contract admits a single outcome
 pub begin_single : (κs : Lfts 1) (text : Bor (List ℕ)) (after : _) → Single (λ begun. begin.Learnt κs (text, tt) begun after)
-begin_single κs text after = single_value (begun_by text.now (opening text.now))
+begin_single κs text after = single_answer as_begun begun_told (begun_by text.now (opening text.now))
 
 pub next_single : (κs : Lfts 1) (text : Bor (List ℕ)) (progress : Progress) (after : _) → Single (λ step. next.Learnt κs (text, (progress, tt)) step after)
 next_single κs text progress after one other p q =

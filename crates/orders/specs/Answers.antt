@@ -1,7 +1,7 @@
 -- What a list is answered, line by line: "The desk program reads an order list … a line for each line after the first … Refused lines
 -- change nothing and it goes on." Assumes nothing.
-use Rattle.std.specs.Prelude.{ℕ, suc, ◌+◌, min, ◌≡◌, cond, Option, List, [], ◌∷◌, length, drop, leb, eqb}
-use Rattle.ground.specs.Refusal.{Read, wrong, right, check, ◌>>=◌, ◌>>◌}
+use Rattle.std.specs.Prelude.{ℕ, suc, ◌+◌, min, ◌≡◌, cond, Option, Result, Ok, Err, List, [], ◌∷◌, length, drop, leb, eqb}
+use Rattle.ground.specs.Refusal.{Or, Read, wrong, right, refusal_number, check, ◌>>=◌, ◌>>◌}
 use Rattle.ground.specs.Limits.{longest_text}
 use Rattle.texts.specs.Lines.{lines_of, line_at, past_line}
 use Rattle.lines.specs.Reading.{heading_of, order_of}
@@ -14,7 +14,7 @@ use Rattle.choice.specs.declared.Offer.{Offer}
 use Rattle.book.specs.declared.Answer.{Answer}
 use Rattle.book.specs.declared.Answer.TheVariants.{Yes, No, Refused}
 use Rattle.orders.specs.declared.Progress.{Progress}
-use Rattle.orders.specs.declared.Begun.{Begun}
+use Rattle.orders.specs.declared.NotBegun.{NotBegun}
 use Rattle.orders.specs.declared.Step.{Step}
 
 -- the book that a first line opens: "A fresh book has every chamber free from hour 0"
@@ -77,17 +77,22 @@ yeses (answer ∷ answers) = yeses_in answer + yeses answers
 abbrev pub refused_line : ℕ → ℕ
 refused_line number = cond (eqb number 9) 0 1
 
--- a list that does not begin: its refusal, and a progress at the line refused, with a book of every field 0
-abbrev pub not_begun : ℕ → ℕ → Begun
-not_begun line number = record { refusal = number; progress = record { at = 0; line = line; book = fresh_book 0 0 } }
+-- what a function answers of a list's beginning: the progress past its first line, or the refusal's number and the line refused
+abbrev pub as_begun : Result Progress NotBegun → Or (ℕ × ℕ) Progress
+as_begun (Ok progress) = right progress
+as_begun (Err refused) = wrong (refusal_number refused.refusal, refused.line)
+
+-- a list that does not begin, refused at this line
+abbrev pub not_begun : ℕ → ℕ → Or (ℕ × ℕ) Progress
+not_begun line number = wrong (number, line)
 
 -- one that begins is past its first line, and its first order stands on line 2
-abbrev pub begun_with : List ℕ → Book → Begun
-begun_with text book = record { refusal = 0; progress = record { at = past_line text 0; line = 2; book = book } }
+abbrev pub begun_with : List ℕ → Book → Progress
+begun_with text book = record { at = past_line text 0; line = 2; book = book }
 
-abbrev pub begun_by : List ℕ → Read Book → Begun
+abbrev pub begun_by : List ℕ → Read Book → Or (ℕ × ℕ) Progress
 begun_by text (wrong number) = not_begun (refused_line number) number
-begun_by text (right book) = begun_with text book
+begun_by text (right book) = right (begun_with text book)
 
 -- the progress past the line at its place; a line's number stops at the last of 32 bits
 abbrev pub progress_past : List ℕ → Progress → Progress

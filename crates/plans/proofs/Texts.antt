@@ -19,9 +19,8 @@ use Rattle.book.specs.Taking.{hold}
 use Rattle.book.specs.declared.Book.{Book}
 use Rattle.loads.specs.Checks.{place_named, order_named, order_from, load_asked}
 use Rattle.orders.specs.Answers.{opening, begun_with, begun_by}
-use Rattle.orders.specs.declared.Begun.{Begun}
 use Rattle.orders.specs.declared.Progress.{Progress}
-use Rattle.orders.proofs.Beginning.{too_long, begun_wrong, begun_right, opened_fresh_book, refused_by_nine}
+use Rattle.orders.proofs.Beginning.{begun_wrong, begun_right, opened_fresh_book}
 use Rattle.orders.proofs.Clean.{begun_headed}
 use Rattle.orders.proofs.Places.{begun_left}
 use Rattle.plans.specs.Judging.{through, overlaps_any, load_checked, note_load, list_judged, plan_judged, loads_counted, both_judged, judged}
@@ -31,7 +30,7 @@ use Rattle.plans.specs.declared.OrdersRead.{OrdersRead}
 use Rattle.plans.proofs.Judged.{list_over, plan_over}
 
 -- A list that has begun so.
-module _ (list : List ℕ) (progress : Progress) (begun : opening list ≡ right progress.book) (there : progress ≡ (begun_with list progress.book).progress) where
+module _ (list : List ℕ) (progress : Progress) (begun : opening list ≡ right progress.book) (there : progress ≡ begun_with list progress.book) where
   -- its orders are left
   pub orders_begun : orders_left list progress [] ≡ list_judged list progress.book
   unfolding list_judged
@@ -121,54 +120,34 @@ module _ (list plan : List ℕ) where
         let known = are.faultless none in
         same_loads known.0.orders (take read.count readies) (take read.count dues) known.2 plan book ∙ rw known.1
 
-  -- How the list begins, and how long the plan is.
-  module _ (begun : Begun) (is : begun ≡ begun_by list (opening list)) where
-    -- the number is that of its refusal
-    number_is : begun.refusal ≡ (begun_by list (opening list)).refusal
-    number_is = ap (λ (one : Begun). one.refusal) is
+  -- 9 for the list
+  pub list_nine : longest_text < length list → judged list plan ≡ wrong (fault_of 9 false 0 0 0)
+  list_nine over = list_over list plan over
 
-    -- 9 for the list
-    pub list_nine : begun.refusal ≡ 9 → judged list plan ≡ wrong (fault_of 9 false 0 0 0)
-    list_nine nine =
-        let same = number_is in
-        let refused : opening list ≡ wrong 9 = begun_wrong list (λ none. omega (arith, same, none, nine)) ∙ ap wrong (sym same ∙ nine) in
-        list_over list plan ((refused_by_nine list).0 refused)
+  -- Where it is not too long:
+  module _ (list_fits : length list ≤ longest_text) where
+    -- 9 for the plan
+    pub plan_nine : longest_text < length plan → judged list plan ≡ wrong (fault_of 9 true 0 0 0)
+    plan_nine over = plan_over list plan list_fits over
 
-    module _ (other : begun.refusal ≡ 9 → ⊥) where
-      -- without it the list is not too long
-      pub list_fits : length list ≤ longest_text
-      list_fits =
-          by_test (leb (length list) longest_text) (leb-true (length list) longest_text)
-          (λ over.
-          let refused = too_long list (leb-false (length list) longest_text over) in
-          absurd (other (number_is ∙ ap (λ read. (begun_by list read).refusal) refused)))
+    module _ (short : length plan ≤ longest_text) where
+      -- a fault of the first line
+      pub first_line_faulty :
+          (number line : ℕ) → begun_by list (opening list) ≡ wrong (number, line) → judged list plan ≡ wrong (fault_of number false 1 0 (past_line list 0))
+      unfolding judged
+      first_line_faulty number line begun =
+          let refused = (begun_wrong list number line begun).0 in
+          rw (le-leb (length list) longest_text list_fits, le-leb (length plan) longest_text short, refused)
 
-      -- 9 for the plan
-      pub plan_nine : longest_text < length plan → judged list plan ≡ wrong (fault_of 9 true 0 0 0)
-      plan_nine over = plan_over list plan list_fits over
+      -- else the orders and the plan
+      judged_begun : (book : Book) → opening list ≡ right book → judged list plan ≡ both_judged list plan book
+      unfolding judged
+      judged_begun book opens = rw (le-leb (length list) longest_text list_fits, le-leb (length plan) longest_text short, opens)
 
-      module _ (short : length plan ≤ longest_text) where
-        -- a fault of the first line
-        pub first_line_faulty : (begun.refusal ≡ 0 → ⊥) → judged list plan ≡ wrong (fault_of begun.refusal false 1 0 (past_line list 0))
-        unfolding judged
-        first_line_faulty some =
-            let refused = begun_wrong list (λ none. some (number_is ∙ none)) ∙ ap wrong (sym number_is) in
-            rw (le-leb (length list) longest_text list_fits, le-leb (length plan) longest_text short, refused)
-
-        -- else the orders and the plan
-        judged_begun : (book : Book) → opening list ≡ right book → judged list plan ≡ both_judged list plan book
-        unfolding judged
-        judged_begun book opens = rw (le-leb (length list) longest_text list_fits, le-leb (length plan) longest_text short, opens)
-
-        pub list_begun :
-            begun.refusal ≡ 0
-            → (opening list ≡ right begun.progress.book) × (begun.progress ≡ (begun_with list begun.progress.book).progress)
-            × (judged list plan ≡ both_judged list plan begun.progress.book)
-        list_begun none =
-            let p = begun_right list (sym number_is ∙ none) in
-            let same : begun ≡ begun_with list p.0 = is ∙ p.2 in
-            let book : begun.progress.book ≡ p.0 = ap (λ (one : Begun). one.progress.book) same in (
-              p.1 ∙ ap right (sym book),
-              ap (λ (one : Begun). one.progress) same ∙ ap (λ (fresh : Book). (begun_with list fresh).progress) (sym book),
-              judged_begun p.0 p.1 ∙ ap (both_judged list plan) (sym book),
-            )
+      pub list_begun :
+          (progress : Progress) → begun_by list (opening list) ≡ right progress
+          → (opening list ≡ right progress.book) × (progress ≡ begun_with list progress.book)
+          × (judged list plan ≡ both_judged list plan progress.book)
+      list_begun progress begun =
+          let opens = begun_right list progress begun in
+          (opens.0, opens.1, judged_begun progress.book opens.0)

@@ -213,7 +213,7 @@ fn judge_plan(plan: &[u8], book: Book, readies: &[u32], dues: &[u32]) -> Judgeme
 
 // The list that has begun so, and the plan.
 fn judge_with(list: &[u8], plan: &[u8], begun: Progress) -> Judgement
-    requires { (opening list.now ≡ right begun.book) × (begun ≡ (begun_with list.now begun.book).progress) }
+    requires { (opening list.now ≡ right begun.book) × (begun ≡ begun_with list.now begun.book) }
     ensures { as_judged result ≡ both_judged list.now plan.now begun.book }
 {
     let mut readies = [0u32; ORDERS];
@@ -245,18 +245,16 @@ fn list_fault(number: u32, line: u32, to: usize) -> Judgement
 pub fn judge(list: &[u8], plan: &[u8]) -> Judgement
     ensures { as_judged result ≡ judged list.now plan.now }
 {
-    let begun = begin(list);
-    let refusal = begun.refusal;
-    if refusal == 9 {
+    if LONGEST_TEXT < list.len() {
         return list_fault(9, 0, 0);
     }
     if LONGEST_TEXT < plan.len() {
         return plan_fault(9, 0, 0, 0);
     }
-    if refusal != 0 {
-        return list_fault(refusal, 1, line_end(list, 0));
+    match begin(list) {
+        Ok(progress) => judge_with(list, plan, progress),
+        Err(refused) => list_fault(refused.refusal.number(), 1, line_end(list, 0)),
     }
-    judge_with(list, plan, begun.progress)
 }
 
 // The line at fault, as a part of the text that it stands in.

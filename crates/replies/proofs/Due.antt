@@ -1,18 +1,18 @@
 -- The lines that a buffer is filled with, from whatever state of a reply: each is the next that is due. Assumes nothing.
-use Prim.Native.Nat.{ℕ, zero, suc, ◌-◌}
+use Prim.Native.Nat.{ℕ, zero, suc, ◌-◌, ◌<◌}
 use mathlib.Core.Path.{◌≡◌, refl, sym, ap, ◌∙◌}
 use mathlib.Core.Bool.{false}
 use mathlib.Core.List.{List, [], ◌∷◌, ◌++◌}
 use lib.ListN.{length, take, length-append}
-use lib.Dec.{ltb, eqb}
+use lib.Dec.{ltb}
 use native.Mathlib.Omega.{arith}
-use borrow.Author.Tests.{ltb-true, ltb-false, eqb-true, eqb-false}
+use borrow.Author.Tests.{ltb-true, ltb-false}
 use Rattle.ground.proofs.Tests.{by_test, never_both}
 use Rattle.texts.specs.Lines.{line_at}
 use Rattle.texts.specs.Meaning.{joined}
 use Rattle.lines.specs.Reading.{order_of}
 use Rattle.book.specs.Taking.{answer_of}
-use Rattle.orders.specs.Answers.{decision, order_in, progress_past}
+use Rattle.orders.specs.Answers.{decision, order_in, progress_past, Stepped}
 use Rattle.orders.specs.declared.Progress.{Progress}
 use Rattle.orders.specs.declared.Step.{Step}
 use Rattle.replies.specs.Filling.{bytes_in, line_due, past_line_due, may_go_on, filling_up_to, filling, Fills}
@@ -20,7 +20,7 @@ use Rattle.replies.specs.Meaning.{NextLine, of_refusal, of_answer, of_sum, Fille
 use Rattle.replies.specs.declared.Reply.{Reply}
 use Rattle.replies.specs.declared.Filled.{Filled}
 use Rattle.replies.proofs.Fields.{reply_fields, sum_fields}
-use Rattle.replies.proofs.Filling.{is_on, going_on}
+use Rattle.replies.proofs.Filling.{due_refused, past_refused, due_answered, past_answered, due_summed, past_summed, by_option, is_on, going_on}
 use Rattle.replies.proofs.Pieces.{start_in_range_lem, step_written, refusal_written, piece_is}
 
 -- the step at a place of a list
@@ -36,24 +36,29 @@ whole_room room = omega arith
 module _ (text : List ℕ) (Steps : Progress → Step → Type 0) (steps : (progress : Progress) → Steps progress (step_at text progress)) where
   -- the line that is due is the next
   next_due : (reply : Reply) → NextLine text Steps reply (bytes_in (line_due text reply)) (past_line_due text reply)
-  unfolding line_due past_line_due
   next_due reply =
-      by_test (eqb reply.refusal 0)
+      by_option reply.refusal
       (λ begun.
-      let none : reply.refusal ≡ 0 = eqb-true reply.refusal 0 begun in
       by_test (ltb reply.progress.at (length text))
       (λ here.
+      let inside : reply.progress.at < length text = ltb-true reply.progress.at (length text) here in
+      let step = step_at text reply.progress in
+      let stepped : Stepped text reply.progress step = record { read = refl; said = refl; next = refl } in
       let order = order_of (line_at text reply.progress.at) in
-      let answer = answer_of (decision reply.progress.book order) in
-      rw (begun, here, step_written reply.progress.line reply.progress.book order)
-      (of_answer _ (step_at text reply.progress) none (ltb-true reply.progress.at (length text) here) (steps reply.progress)
-      (reply_fields reply.progress.line answer (start_in_range_lem reply.progress.book order))))
+      rw (
+        due_answered text reply step begun inside stepped,
+        past_answered text reply step begun inside stepped,
+        step_written reply.progress.line reply.progress.book order,
+      )
+      (of_answer _ step begun inside (steps reply.progress)
+      (reply_fields reply.progress.line step.answer (start_in_range_lem reply.progress.book order))))
       (λ past.
-      rw (begun, past)
-      (of_sum _ none (ltb-false reply.progress.at (length text) past) (sum_fields reply.progress.book.taken reply.progress.book.kept))))
-      (λ refused.
-      rw (refused, refusal_written reply.progress.line reply.refusal)
-      (of_refusal _ (eqb-false reply.refusal 0 refused) (reply_fields reply.progress.line _ refl)))
+      let ended = ltb-false reply.progress.at (length text) past in
+      rw (due_summed text reply begun ended, past_summed text reply begun ended)
+      (of_sum _ begun ended (sum_fields reply.progress.book.taken reply.progress.book.kept))))
+      (λ number refused.
+      rw (due_refused text reply number refused, past_refused text reply number refused, refusal_written reply.progress.line number)
+      (of_refusal _ number refused (reply_fields reply.progress.line _ refl)))
 
   -- so those that room is filled with are, where it is filled up
   filled_with :

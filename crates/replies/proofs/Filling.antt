@@ -5,20 +5,27 @@ use mathlib.Core.Bool.{true, false, not}
 use mathlib.Core.List.{List, [], ◌++◌, append_assoc, append-nil}
 use lib.ListN.{length, take, drop, length-append, length-drop, drop_of_length-le}
 use lib.Seq.{take_all, take-append_seam, drop-append_seam, drop-drop}
-use lib.Dec.{leb, ltb, eqb}
+use lib.Dec.{leb, ltb}
 use native.Mathlib.Omega.{arith}
 use borrow.Rule.Slice.PartMut.{put_mid, mid_of}
-use borrow.Author.Tests.{leb-true, leb-false, ltb-true, le-leb}
+use borrow.Author.Tests.{leb-true, leb-false, ltb-true, lt-ltb, le-ltb, le-leb}
+use Rattle.std.specs.Prelude.{Option, None, Some}
 use Rattle.ground.specs.Refusal.{Read, wrong, right}
 use Rattle.ground.specs.Buffer.{onto, fitted, length_of, buffer_after}
 use Rattle.ground.proofs.Tests.{by_test, never_both, second_of, not_met}
 use Rattle.ground.proofs.Buffer.{front_of_onto, rest_of_onto, length_of_onto}
-use Rattle.writer.specs.Writing.{as_length}
 use Rattle.writer.specs.Line.{line_room}
-use Rattle.std.specs.Prelude.{Result}
 use Rattle.orders.proofs.Places.{moves_on}
-use Rattle.replies.specs.Filling.{bytes_in, line_due, past_line_due, may_go_on, ahead, filling_up_to, filling, Fills}
-use Rattle.replies.specs.Steps.{count_in, Put, LineBehind, left_of}
+use Rattle.texts.specs.Lines.{line_at}
+use Rattle.lines.specs.Reading.{order_of}
+use Rattle.book.specs.Taking.{answer_of}
+use Rattle.book.specs.declared.Answer.TheVariants.{Refused}
+use Rattle.book.proofs.Promises.{answer_told}
+use Rattle.orders.specs.Answers.{decision, Stepped}
+use Rattle.orders.specs.declared.Step.{Step}
+use Rattle.replies.specs.Replies.{sum_line, reply_written}
+use Rattle.replies.specs.Filling.{bytes_in, finished, line_due, past_by, past_line_due, may_go_on, ahead, filling_up_to, filling, Fills}
+use Rattle.replies.specs.Steps.{count_in, LineBehind, left_of}
 use Rattle.replies.specs.declared.Reply.{Reply}
 use Rattle.replies.specs.declared.Filled.{Filled}
 
@@ -37,33 +44,83 @@ unfolding onto
 stands (wrong number) buffer = refl
 stands (right bytes) buffer = refl
 
--- what the writing of a line comes to where there is room for any line
-pub put_comes :
-    (line : Read (List ℕ)) → length (bytes_in line) ≤ line_room → (buffer : List ℕ) → line_room ≤ length buffer
-    → (written : Result ℕ ℕ) {held : List ℕ} {filled : Filled} {past : Reply} → as_length written ≡ length_of (fitted buffer line)
-    → held ≡ buffer_after buffer (fitted buffer line) → filled.length ≡ count_in (as_length written) → filled.reply ≡ past
-    → Put line past buffer filled held
-put_comes line fits buffer room written answered kept counted comes =
-    let fitting = whole line buffer (omega arith) in
-    record {
-      counted = counted ∙ ap count_in (answered ∙ ap length_of fitting) ∙ counts line;
-      comes = comes;
-      holds = kept ∙ ap (buffer_after buffer) fitting ∙ stands line buffer;
-      fits = fits;
-    }
+-- what the writing of a line comes to where there is room for it
+pub counted_whole :
+    (line : Read (List ℕ)) (buffer : List ℕ) → length (bytes_in line) ≤ length buffer → count_in (length_of (fitted buffer line)) ≡ length (bytes_in line)
+counted_whole line buffer room = ap (λ one. count_in (length_of one)) (whole line buffer room) ∙ counts line
+
+pub held_whole :
+    (line : Read (List ℕ)) (buffer : List ℕ) → length (bytes_in line) ≤ length buffer → buffer_after buffer (fitted buffer line) ≡ onto (bytes_in line) buffer
+held_whole line buffer room = ap (buffer_after buffer) (whole line buffer room) ∙ stands line buffer
+
+-- the part of a buffer from a place to its end, and the buffer once that part came back
+pub rest_of : (at : ℕ) (buffer : List ℕ) → mid_of at (length buffer - at) buffer ≡ drop at buffer
+rest_of at buffer = take_all (length buffer - at) (drop at buffer) (omega (arith, length-drop at buffer))
+
+pub rest_back :
+    (at : ℕ) (buffer last : List ℕ) → at ≤ length buffer → put_mid at (length buffer - at) buffer last ≡ take at buffer ++ last
+rest_back at buffer last inside =
+    rw (drop_of_length-le (drop at buffer) {i = length buffer - at} (omega (arith, length-drop at buffer)), append-nil)
+
+-- of a writing behind what a buffer is filled with
+pub ruleset written_behind = (counted_whole, held_whole, rest_of, rest_back)
+
+-- by the refusal of a reply
+pub by_option : {A C : Type 0} (option : Option A) → (option ≡ None → C) → ((value : A) → option ≡ Some value → C) → C
+by_option None none some = none refl
+by_option (Some value) none some = some value refl
+
+-- what is due of a list that does not begin, at a line of the text, and past its end; and the reply past it
+module _ (text : List ℕ) (reply : Reply) where
+  pub due_refused : (number : ℕ) → reply.refusal ≡ Some number → line_due text reply ≡ reply_written reply.progress.line (Refused number)
+  unfolding line_due
+  due_refused number refused = rw refused
+
+  pub past_refused : (number : ℕ) → reply.refusal ≡ Some number → past_line_due text reply ≡ finished reply
+  unfolding past_line_due
+  past_refused number refused = ap (past_by text reply) refused
+
+  pub due_answered :
+      (step : Step) → reply.refusal ≡ None → reply.progress.at < length text → Stepped text reply.progress step
+      → line_due text reply ≡ reply_written reply.progress.line step.answer
+  unfolding line_due
+  due_answered step begun inside stepped =
+      rw (begun, lt-ltb reply.progress.at (length text) inside)
+      (ap (reply_written reply.progress.line)
+      (sym (answer_told step.answer (answer_of (decision reply.progress.book (order_of (line_at text reply.progress.at)))) stepped.said)))
+
+  pub past_answered :
+      (step : Step) → reply.refusal ≡ None → reply.progress.at < length text → Stepped text reply.progress step
+      → past_line_due text reply ≡ record { refusal = reply.refusal; progress = step.progress; over = false }
+  unfolding past_line_due
+  past_answered step begun inside stepped =
+      ap (past_by text reply) begun ∙ rw (lt-ltb reply.progress.at (length text) inside, stepped.next)
+
+  pub due_summed :
+      reply.refusal ≡ None → length text ≤ reply.progress.at
+      → line_due text reply ≡ right (sum_line reply.progress.book.taken reply.progress.book.kept)
+  unfolding line_due
+  due_summed begun past = rw (begun, le-ltb reply.progress.at (length text) past)
+
+  pub past_summed : reply.refusal ≡ None → length text ≤ reply.progress.at → past_line_due text reply ≡ finished reply
+  unfolding past_line_due
+  past_summed begun past = ap (past_by text reply) begun ∙ rw (le-ltb reply.progress.at (length text) past)
+
+-- of the next line of a reply
+pub ruleset next_lines = (due_refused, past_refused, due_answered, past_answered, due_summed, past_summed)
 
 -- a line less is left past each line
 pub falls : (text : List ℕ) (reply : Reply) → reply.over ≡ false → left_of text (past_line_due text reply) < left_of text reply
 unfolding left_of past_line_due
 falls text reply on =
-    by_test (eqb reply.refusal 0)
+    by_option reply.refusal
     (λ begun.
     by_test (ltb reply.progress.at (length text))
     (λ here.
     let inside : reply.progress.at < length text = ltb-true reply.progress.at (length text) here in
     rw (begun, here, on) (omega (arith, moves_on text reply.progress inside)))
     (λ past. rw (begun, past, on) (omega arith)))
-    (λ refused. rw (refused, on) (omega arith))
+    (λ number refused. rw (refused, on) (omega arith))
 
 -- nothing is left to count of a reply that is over
 none_left : (text : List ℕ) (reply : Reply) → left_of text reply ≤ 0 → reply.over ≡ true
@@ -189,19 +246,6 @@ filled_up text buffer {begun} {held} {filled} so_far off =
       holds = so_far.holds ∙ ap (λ outcome. onto outcome.0 buffer) (sym all);
     }
 
--- a part from a place to the end that came back with a line at its front
-pub part_back :
-    (at : ℕ) (buffer line : List ℕ) {last : List ℕ} → at ≤ length buffer → last ≡ onto line (mid_of at (length buffer - at) buffer)
-    → put_mid at (length buffer - at) buffer last ≡ take at buffer ++ onto line (drop at buffer)
-part_back at buffer line {last} inside back =
-    let part : length (drop at buffer) ≡ length buffer - at = length-drop at buffer in
-    rw (
-      back,
-      take_all (length buffer - at) (drop at buffer) (omega arith),
-      drop_of_length-le (drop at buffer) {i = length buffer - at} (omega arith),
-      append-nil,
-    )
-
 -- no filling leaves more lines than there were, and one with room leaves fewer
 no_more : (count : ℕ) (text : List ℕ) (reply : Reply) (room : ℕ) → left_of text (filling_up_to count text reply room).1 ≤ left_of text reply
 unfolding filling_up_to
@@ -237,12 +281,6 @@ fewer_left text reply buffer fills on space =
 pub none_of_some : (text : List ℕ) (reply next : Reply) → reply.over ≡ false → next.over ≡ true → left_of text next < left_of text reply
 unfolding left_of
 none_of_some text reply next on over = rw (on, over) (omega arith)
-
--- as many bytes as were filled stand in the buffer
-pub piece_length :
-    (text : List ℕ) (reply : Reply) (buffer : List ℕ) {filled : Filled} {held : List ℕ} → Fills text reply buffer filled held
-    → filled.length ≡ length (take filled.length held)
-piece_length text reply buffer {filled} {held} fills = rw (fills.holds, fills.counted) (sym (ap length (front_of_onto (filling text reply (length buffer)).0 buffer)))
 
 -- every byte behind the piece stays
 pub fill_stays :

@@ -4,17 +4,18 @@ use mathlib.Core.Path.{◌≡◌, refl, sym, ap, ◌∙◌}
 use mathlib.Core.Bool.{true, false, cond}
 use mathlib.Core.List.{List, [], ◌∷◌, ◌++◌, append_assoc, append-nil}
 use lib.ListN.{length, take, length-append}
-use lib.Dec.{ltb, eqb}
+use lib.Dec.{ltb}
 use native.Mathlib.Omega.{arith}
-use borrow.Author.Tests.{ltb-true, ltb-false, le-leb, ne_eqb}
+use borrow.Author.Tests.{ltb-true, ltb-false, le-leb}
+use Rattle.std.specs.Prelude.{Option, None, Some}
+use Rattle.std.proofs.lemmas.Option.{none-some}
 use Rattle.ground.specs.Refusal.{Read, wrong, right}
 use Rattle.ground.specs.Limits.{last_hour}
-use Rattle.ground.proofs.Tests.{by_test, never_both}
+use Rattle.ground.proofs.Tests.{by_test}
 use Rattle.ground.proofs.Buffer.{front_of_onto}
 use Rattle.texts.specs.Meaning.{joined, AreLines}
 use Rattle.texts.specs.Lines.{line_at}
 use Rattle.lines.specs.Reading.{order_of}
-use Rattle.lines.proofs.Promises.{line_fault_from}
 use Rattle.lines.specs.declared.Order.{Order}
 use Rattle.writer.specs.Line.{line_room}
 use Rattle.std.specs.Prelude.{Option, Some, None}
@@ -25,14 +26,14 @@ use Rattle.book.specs.declared.Answer.{Answer}
 use Rattle.book.specs.declared.Answer.TheVariants.{Refused}
 use Rattle.book.proofs.Promises.{start_in_time, yes_exactly}
 use Rattle.orders.specs.Answers.{opening, decision, begun_by, refused_line}
-use Rattle.orders.proofs.Beginning.{refused_by_its_first_line}
+use Rattle.orders.specs.declared.Progress.{Progress}
 use Rattle.replies.specs.Replies.{reply_line, sum_line, start_in_range, reply_written, replies_by, reply_of}
-use Rattle.replies.specs.Filling.{bytes_in, reply_begun, line_due, past_line_due, may_go_on, filling_up_to, filling, Fills}
+use Rattle.replies.specs.Filling.{bytes_in, reply_from, reply_begun, line_due, past_line_due, may_go_on, filling_up_to, filling, Fills}
 use Rattle.replies.specs.Meaning.{WrittenOut, nothing_more, a_piece}
 use Rattle.replies.specs.declared.Reply.{Reply}
 use Rattle.replies.specs.declared.Filled.{Filled}
 use Rattle.replies.proofs.ReplyText.{reply_is, sum_is}
-use Rattle.replies.proofs.Filling.{is_on, going_on, filling_on}
+use Rattle.replies.proofs.Filling.{by_option, is_on, going_on, filling_on}
 use Rattle.replies.proofs.Walking.{due, Counted, due_over, due_on, counted_on, begun_counted, begun_due}
 
 -- every start that a book gives is an hour
@@ -67,26 +68,18 @@ sum_some : (taken kept : ℕ) → 1 ≤ length (sum_line taken kept)
 unfolding sum_line
 sum_some taken kept = simp length-append (omega arith)
 
--- a list is never refused by 0
-pub refused_by_some : (text : List ℕ) (number : ℕ) → opening text ≡ wrong number → eqb number 0 ≡ false
-refused_by_some text number refused =
-    ne_eqb number 0
-    (λ none.
-    omega (
-      arith,
-      line_fault_from ((refused_by_its_first_line text number (λ nine. omega arith)).0 refused).1,
-    ))
-
 module _ (text : List ℕ) where
   -- the bytes of a reply that are left to be written
+  abbrev pub out_by : Progress → Option ℕ → List ℕ
+  out_by progress None = joined (due text progress)
+  out_by progress (Some number) = reply_line progress.line (Refused number)
+
   unfoldable pub out_of : Reply → List ℕ
-  out_of reply =
-      cond reply.over []
-      (cond (eqb reply.refusal 0) (joined (due text reply.progress)) (reply_line reply.progress.line (Refused reply.refusal)))
+  out_of reply = cond reply.over [] (out_by reply.progress reply.refusal)
 
   -- the lines that are left of a list that begins all have numbers
   unfoldable pub Numbered : Reply → Type 0
-  Numbered reply = eqb reply.refusal 0 ≡ true → Counted text reply.progress
+  Numbered reply = reply.refusal ≡ None → Counted text reply.progress
 
   -- the next line, and what is left past it
   line_out :
@@ -94,20 +87,20 @@ module _ (text : List ℕ) where
       → (bytes_in (line_due text reply) ++ out_of (past_line_due text reply) ≡ out_of reply) × Numbered (past_line_due text reply) × (1 ≤ length (bytes_in (line_due text reply)))
   unfolding out_of Numbered line_due past_line_due joined
   line_out reply on numbered =
-      by_test (eqb reply.refusal 0)
+      by_option reply.refusal
       (λ begun.
       by_test (ltb reply.progress.at (length text))
       (λ here.
       let inside : reply.progress.at < length text = ltb-true reply.progress.at (length text) here in
       let counted = numbered begun in
-      rw (on, begun, here, begun, step_written reply.progress.line reply.progress.book (order_of (line_at text reply.progress.at)), due_on text reply.progress inside counted)
+      rw (on, begun, here, step_written reply.progress.line reply.progress.book (order_of (line_at text reply.progress.at)), due_on text reply.progress inside counted)
       (refl, (λ again. counted_on text reply.progress inside counted), reply_some reply.progress.line _))
       (λ past.
       rw (on, begun, past, due_over text reply.progress (ltb-false reply.progress.at (length text) past))
       (refl, (λ again. numbered begun), sum_some reply.progress.book.taken reply.progress.book.kept)))
-      (λ refused.
-      rw (on, refused, refusal_written reply.progress.line reply.refusal)
-      (append-nil (reply_line reply.progress.line (Refused reply.refusal)), (λ begun. absurd (never_both begun refused)), reply_some reply.progress.line _))
+      (λ number refused.
+      rw (on, refused, refusal_written reply.progress.line number)
+      (append-nil (reply_line reply.progress.line (Refused number)), (λ begun. absurd (none-some number (sym begun))), reply_some reply.progress.line _))
 
   -- what is filled, and what is left past it
   filled_out :
@@ -128,14 +121,14 @@ module _ (text : List ℕ) where
   line_due_is : (reply : Reply) {lines : List (List ℕ)} → AreLines lines → AreLines (bytes_in (line_due text reply) ∷ lines)
   unfolding line_due
   line_due_is reply are =
-      by_test (eqb reply.refusal 0)
+      by_option reply.refusal
       (λ begun.
       by_test (ltb reply.progress.at (length text))
       (λ here.
       rw (begun, here, step_written reply.progress.line reply.progress.book (order_of (line_at text reply.progress.at)))
       (reply_is reply.progress.line _ are))
       (λ past. rw (begun, past) (sum_is reply.progress.book.taken reply.progress.book.kept are)))
-      (λ refused. rw (refused, refusal_written reply.progress.line reply.refusal) (reply_is reply.progress.line _ are))
+      (λ number refused. rw (refused, refusal_written reply.progress.line number) (reply_is reply.progress.line _ are))
 
   -- so what is filled is whole lines: other lines may follow them
   filled_lines :
@@ -155,21 +148,21 @@ module _ (text : List ℕ) where
   -- before any line is written the whole reply is left
   pub all_left : out_of (reply_begun text) ≡ reply_of text
   unfolding out_of reply_of joined
-  all_left = by_opening (opening text) refl
+  all_left = by_opening (opening text)
     where
-      by_opening :
-          (begun : Read Book) → opening text ≡ begun
-          → out_of (record { refusal = (begun_by text begun).refusal; progress = (begun_by text begun).progress; over = false }) ≡ joined (replies_by text begun)
-      by_opening (wrong number) refused = rw (refused_by_some text number refused) (sym (append-nil (reply_line (refused_line number) (Refused number))))
-      by_opening (right book) begun = ap joined (begun_due text book)
+      by_opening : (begun : Read Book) → out_of (reply_from (begun_by text begun)) ≡ joined (replies_by text begun)
+      by_opening (wrong number) = sym (append-nil (reply_line (refused_line number) (Refused number)))
+      by_opening (right book) = ap joined (begun_due text book)
 
   -- and its lines all have numbers
   pub begun_numbered : Numbered (reply_begun text)
   unfolding Numbered
   begun_numbered = by_opening (opening text) refl
     where
-      by_opening : (begun : Read Book) → opening text ≡ begun → eqb (begun_by text begun).refusal 0 ≡ true → Counted text (begun_by text begun).progress
-      by_opening (wrong number) refused none = absurd (never_both none (refused_by_some text number refused))
+      by_opening :
+          (begun : Read Book) → opening text ≡ begun → (reply_from (begun_by text begun)).refusal ≡ None
+          → Counted text (reply_from (begun_by text begun)).progress
+      by_opening (wrong number) refused none = absurd (none-some number (sym none))
       by_opening (right book) begun none = begun_counted text book begun
 
   -- a buffer that is filled: its piece and what is left are what was left, and where there is room a piece is not empty

@@ -11,7 +11,8 @@ use borrow.Author.Tests.{leb-true, le-leb}
 use contract.Lifetimes.{Lfts}
 use denote.Bor.{Bor}
 use denote.MutBor.{MutBor}
-use Rattle.ground.specs.Refusal.{Read, wrong, right}
+use Rattle.std.specs.Prelude.{Result, Ok, Err, None, Some}
+use Rattle.ground.specs.Refusal.{Or, Read, wrong, right, refusal_number}
 use Rattle.ground.specs.Outcome.{Single}
 use Rattle.ground.proofs.Outcome.{single_value}
 use Rattle.texts.specs.Lines.{lines_of, line_at}
@@ -27,14 +28,15 @@ use Rattle.book.specs.declared.Book.{Book}
 use Rattle.book.specs.Taking.{answer_of}
 use Rattle.book.specs.declared.Answer.{Answer}
 use Rattle.book.specs.declared.Answer.TheVariants.{Yes, No, Refused}
-use Rattle.orders.specs.Answers.{book_for, opening, order_lines, answers_from, book_after, decision, yeses, refused_line}
+use Rattle.orders.specs.Answers.{book_for, opening, order_lines, answers_from, book_after, decision, yeses, refused_line, as_begun, begun_by}
+use Rattle.orders.specs.History.{new_book}
 use Rattle.lines.specs.declared.Heading.{Heading}
 use Rattle.orders.specs.Meaning.{CleanList}
 use Rattle.orders.proofs.Promises.{clean_exactly, refused_empty}
 use Rattle.orders.proofs.Beginning.{refused_by_nine}
 use Rattle.orders.proofs.begin.Reads as begin_list
 use Rattle.orders.proofs.next.Reads as next
-use Rattle.orders.specs.declared.Begun.{Begun}
+use Rattle.orders.specs.declared.NotBegun.{NotBegun}
 use Rattle.orders.specs.declared.Progress.{Progress}
 use Rattle.orders.specs.declared.Step.{Step}
 use Rattle.replies.specs.Replies.{reply_line, sum_line, reply_written, start_in_range, numbered, replies_by, reply_of}
@@ -201,29 +203,42 @@ module _ (text : Bor (List ℕ)) where
 -- book that is opened
 module _ (κs : Lfts 1) (text : Bor (List ℕ)) (reply : Reply) (after : _) (begun : begin.Learnt κs (text, tt) reply after) where
   pub begin_not_over : reply.over ≡ false
-  begin_not_over = ap (λ (it : Reply). it.over) begun
+  begin_not_over = ap (λ (it : Reply). it.over) begun ∙ fresh (begun_by text.now (opening text.now))
+    where
+      fresh : (list : Or (ℕ × ℕ) Progress) → (reply_from list).over ≡ false
+      fresh (wrong refused) = refl
+      fresh (right progress) = refl
 
-  -- the refusal and the progress are those of `orders::begin`
+  -- the progress is that of `orders::begin`, or the refusal and the line are, with a book of every field 0
   pub begin_as_list :
-      (κ : Lfts 1) (list : Begun) (exit : _) → begin_list.Learnt κ (text, tt) list exit
-      → reply ≡ record { refusal = list.refusal; progress = list.progress; over = false }
-  begin_as_list κ list exit learnt = begun ∙ ap reply_from (sym learnt)
+      (κ : Lfts 1) (list : Result Progress NotBegun) (exit : _) → begin_list.Learnt κ (text, tt) list exit
+      → ((progress : Progress) → list ≡ Ok progress → reply ≡ record { refusal = None; progress = progress; over = false })
+      × ((refused : NotBegun) → list ≡ Err refused
+      → reply
+      ≡ record {
+        refusal = Some (refusal_number refused.refusal);
+        progress = record { at = 0; line = refused.line; book = new_book 0 0 };
+        over = false;
+      })
+  begin_as_list κ list exit learnt =
+      let same : reply ≡ reply_from (as_begun list) = begun ∙ ap reply_from (sym learnt) in
+      (λ progress is. same ∙ ap (λ one. reply_from (as_begun one)) is, λ refused is. same ∙ ap (λ one. reply_from (as_begun one)) is)
 
-  refused_so : (number : ℕ) → opening text.now ≡ wrong number → (reply.refusal ≡ number) × (reply.progress.line ≡ refused_line number)
+  refused_so : (number : ℕ) → opening text.now ≡ wrong number → (reply.refusal ≡ Some number) × (reply.progress.line ≡ refused_line number)
   refused_so number refused = rw (begun, refused) (refl, refl)
 
-  pub begin_too_long : 65_536 < length text.now → (reply.refusal ≡ 9) × (reply.progress.line ≡ 0)
+  pub begin_too_long : 65_536 < length text.now → (reply.refusal ≡ Some 9) × (reply.progress.line ≡ 0)
   begin_too_long long = refused_so 9 ((refused_by_nine text.now).1 long)
 
   pub begin_at_fault :
-      (number : ℕ) → length text.now ≤ 65_536 → HeadingFault (line_at text.now 0) number → (reply.refusal ≡ number) × (reply.progress.line ≡ 1)
+      (number : ℕ) → length text.now ≤ 65_536 → HeadingFault (line_at text.now 0) number → (reply.refusal ≡ Some number) × (reply.progress.line ≡ 1)
   begin_at_fault number within fault =
       let refused = whole.fault_refuses text.now number within fault in
       let facts = refused_so number refused.0 in (facts.0, facts.1 ∙ refused.1)
 
   pub begin_with_book :
       (book : Book) → opening text.now ≡ right book
-      → (reply.refusal ≡ 0) × (reply.progress.at ≡ length (line_at text.now 0)) × (reply.progress.line ≡ 2) × (reply.progress.book ≡ book)
+      → (reply.refusal ≡ None) × (reply.progress.at ≡ length (line_at text.now 0)) × (reply.progress.line ≡ 2) × (reply.progress.book ≡ book)
   begin_with_book book opened = rw (begun, opened) (refl, omega (arith, past_is text.now 0), refl, refl)
 
 -- `fill`, from whatever state with whatever buffer: what is filled lies in the buffer, and every other byte stays

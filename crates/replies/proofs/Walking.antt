@@ -69,13 +69,13 @@ module _ (text : List ℕ) where
       rw (left_on progress inside, next) (replies_more progress.line progress.book (line_at text progress.at) (left (progress_past text progress)))
 
   -- from its beginning on
-  pub begun_counted : (book : Book) → opening text ≡ right book → Counted (begun_with text book).progress
+  pub begun_counted : (book : Book) → opening text ≡ right book → Counted (begun_with text book)
   unfolding left Counted
   begun_counted book begun =
       let few : length (lines_of (drop (past_line text 0) text)) ≤ length text =
       omega (arith, lines_within (drop (past_line text 0) text), length-drop (past_line text 0) text) in
       omega (arith, few, opened_within text book begun)
 
-  pub begun_due : (book : Book) → due (begun_with text book).progress ≡ replies_from 2 book (order_lines text)
+  pub begun_due : (book : Book) → due (begun_with text book) ≡ replies_from 2 book (order_lines text)
   unfolding due left
   begun_due book = rw begun_left

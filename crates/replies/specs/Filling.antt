@@ -1,14 +1,14 @@
 -- A buffer filled with the lines of a reply, as many whole ones as it has room for, and how far the reply has come then. Assumes nothing.
-use Rattle.std.specs.Prelude.{ℕ, zero, suc, ◌-◌, ◌≤◌, ◌≡◌, Bool, true, false, not, cond, ◌&&◌, List, [], ◌++◌, length, leb, ltb, eqb}
-use Rattle.ground.specs.Refusal.{Read, wrong, right}
+use Rattle.std.specs.Prelude.{ℕ, zero, suc, ◌-◌, ◌≤◌, ◌≡◌, Bool, true, false, not, cond, ◌&&◌, Option, None, Some, List, [], ◌++◌, length, leb, ltb}
+use Rattle.ground.specs.Refusal.{Or, Read, wrong, right}
 use Rattle.ground.specs.Buffer.{onto}
 use Rattle.texts.specs.Lines.{line_at}
 use Rattle.lines.specs.Reading.{order_of}
 use Rattle.writer.specs.Line.{line_room}
+use Rattle.book.specs.Soundness.{fresh_book}
 use Rattle.book.specs.Taking.{answer_of}
 use Rattle.book.specs.declared.Answer.TheVariants.{Refused}
 use Rattle.orders.specs.Answers.{opening, decision, begun_by, progress_past}
-use Rattle.orders.specs.declared.Begun.{Begun}
 use Rattle.orders.specs.declared.Progress.{Progress}
 use Rattle.replies.specs.Replies.{reply_written, sum_line}
 use Rattle.replies.specs.declared.Reply.{Reply}
@@ -19,9 +19,11 @@ abbrev pub bytes_in : Read (List ℕ) → List ℕ
 bytes_in (wrong number) = []
 bytes_in (right line) = line
 
--- the reply to a list that was begun, and so to a text, of which no line is written yet
-abbrev pub reply_from : Begun → Reply
-reply_from begun = record { refusal = begun.refusal; progress = begun.progress; over = false }
+-- the reply to a list that was begun, and so to a text, of which no line is written yet; one that does not begin has a book of zeros
+abbrev pub reply_from : Or (ℕ × ℕ) Progress → Reply
+reply_from (wrong refused) =
+    record { refusal = Some refused.0; progress = record { at = 0; line = refused.1; book = fresh_book 0 0 }; over = false }
+reply_from (right progress) = record { refusal = None; progress = progress; over = false }
 
 abbrev pub reply_begun : List ℕ → Reply
 reply_begun text = reply_from (begun_by text (opening text))
@@ -39,17 +41,21 @@ abbrev pub step_due : List ℕ → Progress → Read (List ℕ)
 step_due text progress = reply_written progress.line (answer_of (decision progress.book (order_of (line_at text progress.at))))
 
 -- the next line of a reply: that of its refusal, else one for the line at its place, else the sum
+abbrev pub line_by : List ℕ → Progress → Option ℕ → Read (List ℕ)
+line_by text progress None =
+    cond (ltb progress.at (length text)) (step_due text progress) (right (sum_line progress.book.taken progress.book.kept))
+line_by text progress (Some number) = reply_written progress.line (Refused number)
+
 unfoldable pub line_due : List ℕ → Reply → Read (List ℕ)
-line_due text reply =
-    cond (eqb reply.refusal 0)
-    (cond (ltb reply.progress.at (length text)) (step_due text reply.progress)
-    (right (sum_line reply.progress.book.taken reply.progress.book.kept)))
-    (reply_written reply.progress.line (Refused reply.refusal))
+line_due text reply = line_by text reply.progress reply.refusal
 
 -- the reply past it: "A bad first line prints `1→bad→N` and nothing more", and the sum is the last line
+abbrev pub past_by : List ℕ → Reply → Option ℕ → Reply
+past_by text reply None = cond (ltb reply.progress.at (length text)) (stepped text reply) (finished reply)
+past_by text reply (Some number) = finished reply
+
 unfoldable pub past_line_due : List ℕ → Reply → Reply
-past_line_due text reply =
-    cond (eqb reply.refusal 0) (cond (ltb reply.progress.at (length text)) (stepped text reply) (finished reply)) (finished reply)
+past_line_due text reply = past_by text reply reply.refusal
 
 -- a line is left, and there is room for any line
 abbrev pub may_go_on : Reply → ℕ → Bool

@@ -1,6 +1,6 @@
 -- What a line of a reply says, that an answer cannot be written, and that a reply is written out piece by piece.
 -- Stands on lists, numbers, numerals and what other rooms say; assumes nothing.
-use Rattle.std.specs.Prelude.{ℕ, ◌-◌, ◌≤◌, ◌<◌, ◌≡◌, true, false, List, [], ◌∷◌, length, take}
+use Rattle.std.specs.Prelude.{ℕ, ◌-◌, ◌≤◌, ◌<◌, ◌≡◌, true, false, None, Some, List, [], ◌∷◌, length, take}
 use Rattle.ground.specs.Spelling.{DigitsOf}
 use Rattle.fields.specs.Meaning.{Splits}
 use Rattle.writer.specs.Meaning.{HourText}
@@ -53,14 +53,14 @@ pub data WrittenOut (Fill : Reply → List ℕ → Filled → List ℕ → Type 
 -- prints `1→bad→N` and nothing more", a line of the text is answered under its number, and "The last line is `sum`, taken, kept"
 pub data NextLine (text : List ℕ) (Steps : Progress → Step → Type 0) (reply : Reply) : List ℕ → Reply → Type 0 where
   of_refusal :
-      (line : List ℕ) → (reply.refusal ≡ 0 → ⊥) → ReplyTo reply.progress.line (Refused reply.refusal) line
+      (line : List ℕ) (number : ℕ) → reply.refusal ≡ Some number → ReplyTo reply.progress.line (Refused number) line
       → NextLine text Steps reply line (record { refusal = reply.refusal; progress = reply.progress; over = true })
   of_answer :
-      (line : List ℕ) (step : Step) → reply.refusal ≡ 0 → reply.progress.at < length text → Steps reply.progress step
+      (line : List ℕ) (step : Step) → reply.refusal ≡ None → reply.progress.at < length text → Steps reply.progress step
       → ReplyTo reply.progress.line step.answer line
       → NextLine text Steps reply line (record { refusal = reply.refusal; progress = step.progress; over = false })
   of_sum :
-      (line : List ℕ) → reply.refusal ≡ 0 → length text ≤ reply.progress.at
+      (line : List ℕ) → reply.refusal ≡ None → length text ≤ reply.progress.at
       → SumOf reply.progress.book.taken reply.progress.book.kept line
       → NextLine text Steps reply line (record { refusal = reply.refusal; progress = reply.progress; over = true })
 

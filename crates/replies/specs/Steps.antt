@@ -46,13 +46,6 @@ abbrev pub count_in : Read ℕ → ℕ
 count_in (wrong number) = 0
 count_in (right count) = count
 
--- a line that was put to the front of a buffer, and the reply past it
-pub record Put (line : Read (List ℕ)) (past : Reply) (buffer : List ℕ) (filled : Filled) (held : List ℕ) : Type 0 where
-  pub counted : filled.length ≡ length (bytes_in line)
-  pub comes : filled.reply ≡ past
-  pub holds : held ≡ onto (bytes_in line) buffer
-  pub fits : length (bytes_in line) ≤ line_room
-
 -- a line that was put behind those that a buffer is filled with
 pub record LineBehind (text : List ℕ) (filled : Filled) (buffer : List ℕ) (next : Filled) (held : List ℕ) : Type 0 where
   pub counted : next.length ≡ filled.length + length (bytes_in (line_due text filled.reply))

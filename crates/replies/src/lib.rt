@@ -9,42 +9,30 @@ ghost use Rattle.writer.specs.Writing.{as_length};
 ghost use Rattle.writer.specs.Line.{line_room};
 ghost use Rattle.writer.specs.Steps.{Comes, bytes_of_all};
 ghost use Rattle.replies.specs.Replies.{sum_line, reply_written};
-ghost use Rattle.replies.specs.Filling.{bytes_in, reply_begun, finished, stepped, step_due, line_due, past_line_due, may_go_on, Fills};
-ghost use Rattle.replies.specs.Steps.{answer_put, reply_put, sum_put, answer_room, count_in, Put, LineBehind};
+ghost use Rattle.replies.specs.Filling.{bytes_in, reply_begun, line_due, past_line_due, may_go_on, Fills};
+ghost use Rattle.replies.specs.Steps.{answer_put, reply_put, sum_put, answer_room, count_in, LineBehind};
 
-use book::Answer;
+use book::{Answer, Book};
 use orders::Progress;
 use writer::{LINE_ROOM, Written, put_hour, put_number, put_word, write_line};
 
-// Puts the fields of a yes behind a line so far: refusal 4 where the start is above the last hour.
-// They are short enough for the room of a line.
-fn put_yes(so_far: Written, chamber: u32, start: u32, own: &mut [u8]) -> Written
-    ensures comes { Comes (as_length so_far) (answer_put (Answer.Yes chamber start)) own.old (as_length result) own.new }
-    ensures start_bound { bytes_of_all (answer_put (Answer.Yes chamber start)) ≤ answer_room }
-{
-    let worded = put_word(so_far, b"yes", b'\t', own);
-    let housed = put_number(worded, chamber, b'\t', own);
-    put_hour(housed, start, b'\n', own)
-}
-
-// Puts the fields of a refusal behind a line so far.
-fn put_bad(so_far: Written, number: u32, own: &mut [u8]) -> Written
-    ensures comes { Comes (as_length so_far) (answer_put (Answer.Refused number)) own.old (as_length result) own.new }
-    ensures number_bound { bytes_of_all (answer_put (Answer.Refused number)) ≤ answer_room }
-{
-    let worded = put_word(so_far, b"bad", b'\t', own);
-    put_number(worded, number, b'\n', own)
-}
-
-// Puts the fields of an answer behind a line so far.
+// Puts the fields of an answer behind a line so far: refusal 4 where a yes starts above the last hour. They are short enough for the room
+// of a line.
 fn put_answer(so_far: Written, answer: Answer, own: &mut [u8]) -> Written
     ensures comes { Comes (as_length so_far) (answer_put answer) own.old (as_length result) own.new }
     ensures answer_bound { bytes_of_all (answer_put answer) ≤ answer_room }
 {
     match answer {
-        Answer::Yes { chamber, start } => put_yes(so_far, chamber, start, own),
+        Answer::Yes { chamber, start } => {
+            let worded = put_word(so_far, b"yes", b'\t', own);
+            let housed = put_number(worded, chamber, b'\t', own);
+            put_hour(housed, start, b'\n', own)
+        }
         Answer::No => put_word(so_far, b"no", b'\n', own),
-        Answer::Refused(number) => put_bad(so_far, number, own),
+        Answer::Refused(number) => {
+            let worded = put_word(so_far, b"bad", b'\t', own);
+            put_number(worded, number, b'\n', own)
+        }
     }
 }
 
@@ -88,11 +76,11 @@ pub fn write_sum(taken: u32, kept: u32, buffer: &mut [u8]) -> Written
     write_line(sum, &own, buffer)
 }
 
-// How far a reply has come: what its list is refused by, 0 where it begins; the
-// progress through the list; whether no line is left to be written.
+// How far a reply has come: the number that its list is refused by, if it does not begin; the progress through the list; whether no line is
+// left to be written. A reply that is over still tells the book that its list came to.
 #[derive(Clone, Copy)]
 pub struct Reply {
-    pub refusal: u32,
+    pub refusal: Option<u32>,
     pub progress: Progress,
     pub over: bool,
 }
@@ -104,111 +92,80 @@ pub struct Filled {
     pub reply: Reply,
 }
 
-// The reply to a text, of which no line is written yet.
+// The reply to a text, of which no line is written yet. A list that does not begin has a book with every field 0.
+#[tactic(auto, unfolding(book::specs::Soundness::opened))]
 pub fn begin(text: &[u8]) -> Reply
     ensures { result ≡ reply_begun text.now }
 {
-    let begun = orders::begin(text);
-    let progress = begun.progress;
-    Reply {
-        refusal: begun.refusal,
-        progress,
-        over: false,
+    match orders::begin(text) {
+        Ok(progress) => Reply {
+            refusal: None,
+            progress,
+            over: false,
+        },
+        Err(refused) => Reply {
+            refusal: Some(refused.refusal.number()),
+            progress: Progress {
+                at: 0,
+                line: refused.line,
+                book: Book::open(0, 0).book,
+            },
+            over: false,
+        },
     }
 }
 
-// A reply of which no line is left.
-fn end(reply: Reply) -> Reply
-    ensures { result ≡ finished reply }
+// Writes the next line of a reply, that of its refusal, else one for the line at its place, else the sum; and the reply past it.
+#[tactic(auto, using(crate::proofs::Filling::next_lines))]
+fn write_next(text: &[u8], reply: Reply, buffer: &mut [u8]) -> (Written, Reply)
+    ensures written { as_length result.0 ≡ length_of (fitted buffer.old (line_due text.now reply)) }
+    ensures held { buffer.new ≡ buffer_after buffer.old (fitted buffer.old (line_due text.now reply)) }
+    ensures fits { length (bytes_in (line_due text.now reply)) ≤ line_room }
+    ensures past { result.1 ≡ past_line_due text.now reply }
 {
     let progress = reply.progress;
-    Reply {
-        refusal: reply.refusal,
-        progress,
+    let ended = Reply {
         over: true,
+        ..reply
+    };
+    if let Some(number) = reply.refusal {
+        let written = write_answer(progress.line, Answer::Refused(number), buffer);
+        return (written, ended);
     }
+    if progress.at < text.len() {
+        let step = orders::next(text, progress);
+        let written = write_answer(progress.line, step.answer, buffer);
+        let past = Reply {
+            progress: step.progress,
+            over: false,
+            ..reply
+        };
+        return (written, past);
+    }
+    let written = write_sum(progress.book.taken, progress.book.kept, buffer);
+    (written, ended)
 }
 
-// What was filled by a writing: nothing where it was refused.
-fn filled_by(written: Written, reply: Reply) -> Filled
-    ensures { (result.length ≡ count_in (as_length written)) × (result.reply ≡ reply) }
+// How many bytes a writing wrote: none where it was refused.
+fn count_in(written: Written) -> usize
+    ensures { result ≡ count_in (as_length written) }
 {
     match written {
-        Ok(length) => Filled { length, reply },
-        Err(_) => Filled { length: 0, reply },
+        Ok(length) => length,
+        Err(_) => 0,
     }
-}
-
-// Puts the one line of a list that does not begin to the front of a buffer.
-fn put_refusal(reply: Reply, buffer: &mut [u8]) -> Filled
-    requires { line_room ≤ length buffer.old }
-    ensures { Put (reply_written reply.progress.line (Answer.Refused reply.refusal))
-        (finished reply) buffer.old result buffer.new }
-{
-    let progress = reply.progress;
-    let written = write_answer(progress.line, Answer::Refused(reply.refusal), buffer);
-    filled_by(written, end(reply))
-}
-
-// Puts the reply to the line at the place of a reply.
-fn put_step(text: &[u8], reply: Reply, buffer: &mut [u8]) -> Filled
-    requires { line_room ≤ length buffer.old }
-    ensures { Put (step_due text.now reply.progress) (stepped text.now reply)
-        buffer.old result buffer.new }
-{
-    let progress = reply.progress;
-    let step = orders::next(text, progress);
-    let answer = step.answer;
-    let next = step.progress;
-    let written = write_answer(progress.line, answer, buffer);
-    let past = Reply {
-        refusal: reply.refusal,
-        progress: next,
-        over: false,
-    };
-    filled_by(written, past)
-}
-
-// Puts the sum, behind which no line is left.
-fn put_last(reply: Reply, buffer: &mut [u8]) -> Filled
-    requires { line_room ≤ length buffer.old }
-    ensures { Put (right (sum_line reply.progress.book.taken reply.progress.book.kept))
-        (finished reply) buffer.old result buffer.new }
-{
-    let progress = reply.progress;
-    let book = progress.book;
-    let written = write_sum(book.taken, book.kept, buffer);
-    filled_by(written, end(reply))
-}
-
-// Puts the next line of a reply: that of its refusal, else one for the line at its place, else the sum.
-fn put_next(text: &[u8], reply: Reply, buffer: &mut [u8]) -> Filled
-    requires { line_room ≤ length buffer.old }
-    ensures { Put (line_due text.now reply) (past_line_due text.now reply)
-        buffer.old result buffer.new }
-{
-    if reply.refusal != 0 {
-        return put_refusal(reply, buffer);
-    }
-    let progress = reply.progress;
-    if progress.at < text.len() {
-        return put_step(text, reply, buffer);
-    }
-    put_last(reply, buffer)
 }
 
 // Puts the next line of a reply behind those that a buffer is filled with.
+#[tactic(auto, using(crate::proofs::Filling::written_behind))]
 fn put_behind(text: &[u8], filled: Filled, buffer: &mut [u8]) -> Filled
     requires { filled.length + line_room ≤ length buffer.old }
     ensures { LineBehind text.now filled buffer.old result buffer.new }
 {
-    let at = filled.length;
-    let reply = filled.reply;
-    let put = put_next(text, reply, &mut buffer[at..]);
-    let next = put.reply;
+    let (written, reply) = write_next(text, filled.reply, &mut buffer[filled.length..]);
     Filled {
-        length: at + put.length,
-        reply: next,
+        length: filled.length + count_in(written),
+        reply,
     }
 }
 
@@ -217,9 +174,8 @@ fn goes_on(filled: Filled, room: usize) -> bool
     requires { filled.length ≤ room }
     ensures { result ≡ may_go_on filled.reply (room - filled.length) }
 {
-    let reply = filled.reply;
     let left = room - filled.length;
-    !reply.over & (LINE_ROOM <= left)
+    !filled.reply.over & (LINE_ROOM <= left)
 }
 
 // Fills a buffer with the next lines of a reply while one is left and there is room for any line: each is whole, and one that cannot be
