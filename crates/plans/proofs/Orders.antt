@@ -2,11 +2,12 @@
 use Prim.Native.Nat.{ℕ, ◌+◌, ◌≤◌, ◌<◌}
 use mathlib.Core.Path.{◌≡◌, refl, sym, ap, ◌∙◌}
 use mathlib.Core.Bool.{false}
-use mathlib.Core.List.{List, [], ◌∷◌, ◌++◌, map}
+use mathlib.Core.List.{List, [], ◌∷◌, ◌++◌}
 use lib.ListN.{length, take, set, length-set}
 use lib.Seq.{take-suc-set}
 use native.Mathlib.Numerals.{add-one}
 use native.Mathlib.Omega.{arith}
+use Rattle.std.proofs.lemmas.List.{map-append}
 use Rattle.ground.specs.Refusal.{Read, wrong, right}
 use Rattle.ground.specs.Limits.{most_orders, longest_text}
 use Rattle.texts.specs.Lines.{line_at, past_line}
@@ -100,11 +101,6 @@ module _ (list : List ℕ) (progress : Progress) (step : Step) (stepped : Steppe
 stored : (hours : List ℕ) (count hour : ℕ) → count < length hours → take (count + 1) (set hours count hour) ≡ take count hours ++ hour ∷ []
 stored hours count hour room = rw add-one (take-suc-set hours count hour room)
 
--- a list and one more, hour by hour
-map_more : (hour : Order → ℕ) (orders : List Order) (order : Order) → map hour orders ++ hour order ∷ [] ≡ map hour (orders ++ order ∷ [])
-map_more hour [] order = refl
-map_more hour (first ∷ orders) order = ap (λ rest. hour first ∷ rest) (map_more hour orders order)
-
 -- how far a list has been gone through: what is left gives what the whole gives, and the hours of the orders before stand in the buffers
 pub record Gone (list : List ℕ) (begun : Progress) (readies dues : List ℕ) (progress : Progress) (count : ℕ) : Type 0 where
   pub orders : List Order
@@ -148,11 +144,11 @@ module _ {list : List ℕ} {begun : Progress} {readies dues : List ℕ} {progres
                   ready_hours =
                       stored readies count order.ready (omega (arith, room, gone.sized.0))
                       ∙ ap (λ before. before ++ order.ready ∷ []) gone.hours.ready_hours
-                      ∙ map_more (λ one. one.ready) gone.orders order;
+                      ∙ sym (map-append (λ (one : Order). one.ready) gone.orders (order ∷ []));
                   due_hours =
                       stored dues count order.due (omega (arith, room, gone.sized.1))
                       ∙ ap (λ before. before ++ order.due ∷ []) gone.hours.due_hours
-                      ∙ map_more (λ one. one.due) gone.orders order;
+                      ∙ sym (map-append (λ (one : Order). one.due) gone.orders (order ∷ []));
                 };
             counted = omega (arith, counts.1, gone.counted);
             few = omega (arith, room);

@@ -1,5 +1,5 @@
 -- Going through a plan: what is known of its loads at each line, and what a line comes to. Assumes nothing.
-use Prim.Native.Nat.{ℕ, zero, suc, ◌+◌, ◌-◌, ◌≤◌, ◌<◌}
+use Prim.Native.Nat.{ℕ, suc, ◌+◌, ◌-◌, ◌≤◌, ◌<◌}
 use mathlib.Core.Path.{◌≡◌, refl, sym, ap, ◌∙◌}
 use mathlib.Core.Bool.{Bool, true, false, not}
 use mathlib.Core.List.{List, [], ◌∷◌, ◌++◌, map}
@@ -26,7 +26,9 @@ use Rattle.loads.specs.Checks.{load_asked, load_marked, overlap, load_from}
 use Rattle.plans.specs.Judging.{through, any_of, stands_in, overlaps_any, load_checked, note_load, plan_judged, loads_counted}
 use Rattle.plans.specs.Meaning.{fault_of}
 use Rattle.plans.specs.Steps.{orders_from, load_noted}
-use Rattle.plans.proofs.Any.{any_more, any_map, or_true, or_false}
+use Rattle.std.proofs.Math.Bool.{or-true, or-false}
+use Rattle.std.proofs.lemmas.List.{map-append}
+use Rattle.plans.proofs.Any.{any_more, any_map}
 use Rattle.plans.proofs.Chains.{Chained, chained_none, chained_more, Searched, searched_none, found, searched_found, searched_on}
 use Rattle.plans.proofs.Pigeonhole.{OrderLines, few_loads, no_order_lines, order_lines_more}
 use Rattle.plans.proofs.Going.{through_done, through_on, through_stops}
@@ -140,12 +142,12 @@ marks_more count lines seen load line inside some room marked other there =
     by_test (eqb other load.order)
     (λ same.
     let e : other ≡ load.order = eqb-true other load.order same in
-    rw (any_more (λ earlier. eqb other earlier.order) seen load, same, ap (λ (number : ℕ). number - first_order_line) e, get_or-set_same lines (load.order - first_order_line) line 0 room, ne_eqb line 0 (λ none. omega arith), or_true)
+    rw (any_more (λ earlier. eqb other earlier.order) seen load, same, ap (λ (number : ℕ). number - first_order_line) e, get_or-set_same lines (load.order - first_order_line) line 0 room, ne_eqb line 0 (λ none. omega arith), or-true)
     refl)
     (λ differs.
     let apart : (other - first_order_line ≡ load.order - first_order_line) → ⊥ =
     λ same. eqb-false other load.order differs (omega (arith, same, within_low first_order_line (suc count) other there, within_low first_order_line (suc count) load.order inside)) in
-    rw (any_more (λ earlier. eqb other earlier.order) seen load, differs, get_or-set_other lines (load.order - first_order_line) (other - first_order_line) line 0 apart, or_false) (marked other there))
+    rw (any_more (λ earlier. eqb other earlier.order) seen load, differs, get_or-set_other lines (load.order - first_order_line) (other - first_order_line) line 0 apart, or-false) (marked other there))
 
 -- at first none stands
 marks_none : (count : ℕ) (lines : List ℕ) → ((place : ℕ) → get_or lines place 0 ≡ 0) → Marks count lines []
@@ -161,16 +163,6 @@ noted_line count run readies dues lines plan at end noted past is = sym (is ∙ 
 -- the order lines of loads
 abbrev order_lines_of : List Load → List ℕ
 order_lines_of seen = map (λ load. load.order) seen
-
--- with one more
-order_lines_behind : (seen : List Load) (load : Load) → order_lines_of seen ++ load.order ∷ [] ≡ order_lines_of (seen ++ load ∷ [])
-order_lines_behind [] load = refl
-order_lines_behind (first ∷ seen) load = ap (λ rest. first.order ∷ rest) (order_lines_behind seen load)
-
--- what is not 0 is at least 1
-not_zero : (number : ℕ) → (number ≡ 0 → ⊥) → 1 ≤ number
-not_zero zero some = absurd (some refl)
-not_zero (suc number) some = omega arith
 
 -- how far a plan has been gone through: what is left gives what the whole gives, the loads seen are of different orders of the list,
 -- and every one of them is reached from the last plan line of its chamber back
@@ -259,7 +251,7 @@ module _ {plan : List ℕ} {book : Book} {readies dues lines starts befores last
 
   more : OrderLines (length (orders_from readies dues)) (order_lines_of (reached.seen ++ load ∷ []))
   more =
-      rw (← order_lines_behind reached.seen load)
+      rw (map-append (λ (load : Load). load.order) reached.seen (load ∷ []))
       (order_lines_more (length (orders_from readies dues)) load.order (order_lines_of reached.seen) passes.named
       (any_map (λ other. eqb load.order other) (λ load. load.order) reached.seen ∙ passes.new) reached.named)
 
@@ -334,7 +326,7 @@ module _ {plan : List ℕ} {book : Book} {readies dues lines starts befores last
       -- that line is one of those seen
       pub earlier_room : (1 ≤ earlier) × (earlier - 1 < most_orders)
       earlier_room =
-          let low : 1 ≤ earlier = not_zero earlier some in (low, omega (arith, low, searched.0, chained_there.among, reached.few, noting.most))
+          let low : 1 ≤ earlier = omega (arith, some) in (low, omega (arith, low, searched.0, chained_there.among, reached.few, noting.most))
 
       -- the one before it in its chamber is an earlier one
       pub earlier_back : get_or befores (earlier - 1) 0 < earlier
