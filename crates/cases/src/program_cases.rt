@@ -6,7 +6,6 @@ ghost use Rattle.replies.specs.Steps.{left_of};
 use crate::case_text::TextRead;
 use crate::{case_text, results};
 use judgements::write_checked;
-use plans::Judgement;
 use replies::Reply;
 use writer::{LINE_ROOM, text_in};
 
@@ -46,8 +45,7 @@ fn judge<'a>(list: &'a [u8], plan: &'a [u8]) {
     let mut buffer = [0u8; LINE_ROOM];
     let written = write_checked(list, plan, &mut buffer);
     results::words_of(text_in(written, &buffer));
-    match plans::judge(list, plan) {
-        Judgement::Right(count) => (),
-        Judgement::Wrong(fault) => results::text(plans::line_at_fault(list, plan, fault)),
+    if let Err(fault) = plans::judge(list, plan) {
+        results::text(plans::line_at_fault(list, plan, fault));
     }
 }

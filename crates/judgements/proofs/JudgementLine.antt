@@ -7,6 +7,7 @@ use mathlib.Core.List.{List, [], ◌∷◌, head-eq_of_cons-eq, tail-eq_of_cons-
 use mathlib.Core.Logic.{◌↔◌}
 use lib.ListN.{length, length-append}
 use native.Mathlib.Omega.{arith}
+use Rattle.std.specs.Prelude.{Result, Ok, Err}
 use Rattle.ground.specs.Refusal.{Or, wrong, right}
 use Rattle.ground.specs.Digits.{spelled}
 use Rattle.ground.specs.Spelling.{value_of, DigitsOf}
@@ -22,8 +23,6 @@ use Rattle.writer.proofs.Promises.{line_splits}
 use Rattle.planlines.proofs.RoundTrip.{clean_number}
 use Rattle.plans.specs.Judging.{judged, as_judged}
 use Rattle.plans.specs.declared.Fault.{Fault}
-use Rattle.plans.specs.declared.Judgement.{Judgement}
-use Rattle.plans.specs.declared.Judgement.TheVariants as judgement
 use Rattle.judgements.specs.Judgements.{text_word, outcome_line, judgement_line, checked_line}
 use Rattle.judgements.specs.Meaning.{RightLine, TextNamed, FaultLine}
 use Rattle.judgements.specs.Steps.{judgement_put}
@@ -35,19 +34,19 @@ word_short true = omega arith
 word_short false = omega arith
 
 -- the line to be written is that of its fields
-pub judgement_of_fields : (judged : Judgement) → right (judgement_line judged) ≡ line_made (judgement_put judged)
+pub judgement_of_fields : (judged : Result ℕ Fault) → right (judgement_line judged) ≡ line_made (judgement_put judged)
 unfolding outcome_line texts_of line_made
-judgement_of_fields (judgement.Right count) = refl
-judgement_of_fields (judgement.Wrong fault) = refl
+judgement_of_fields (Ok count) = refl
+judgement_of_fields (Err fault) = refl
 
 -- and no longer than they are
-pub judgement_fits : (judged : Judgement) → bytes_of_all (judgement_put judged) ≤ line_room → length (judgement_line judged) ≤ line_room
+pub judgement_fits : (judged : Result ℕ Fault) → bytes_of_all (judgement_put judged) ≤ line_room → length (judgement_line judged) ≤ line_room
 unfolding outcome_line bytes_of_all tabbed
-judgement_fits (judgement.Right count) room = simp length-append (omega arith)
-judgement_fits (judgement.Wrong fault) room = simp length-append (omega arith)
+judgement_fits (Ok count) room = simp length-append (omega arith)
+judgement_fits (Err fault) room = simp length-append (omega arith)
 
 -- and the line for two texts is that of the judgement that they have
-pub checked_of : (list plan : List ℕ) (given : Judgement) → as_judged given ≡ judged list plan → checked_line list plan ≡ judgement_line given
+pub checked_of : (list plan : List ℕ) (given : Result ℕ Fault) → as_judged given ≡ judged list plan → checked_line list plan ≡ judgement_line given
 unfolding checked_line
 checked_of list plan given same = ap outcome_line (sym same)
 

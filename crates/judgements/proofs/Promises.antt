@@ -8,16 +8,14 @@ use mathlib.Core.Logic.Iff
 use mathlib.Core.Logic.{◌↔◌}
 use lib.ListN.{length}
 use contract.Lifetimes.{Lfts}
+use Rattle.std.specs.Prelude.{Result, Ok, Err}
 use Rattle.ground.specs.Refusal.{right}
 use Rattle.texts.specs.Lines.{lines_of}
 use Rattle.writer.specs.Meaning.{Writes}
-use Rattle.std.specs.Prelude.{Result}
 use Rattle.writer.proofs.Answers as answers
 use Rattle.plans.specs.Judging.{judged, shown}
 use Rattle.plans.specs.Meaning.{Obeys, FirstFault}
 use Rattle.plans.specs.declared.Fault.{Fault}
-use Rattle.plans.specs.declared.Judgement.{Judgement}
-use Rattle.plans.specs.declared.Judgement.TheVariants as judgement
 use Rattle.plans.proofs.Promises.{right_exactly, fault_exactly}
 use Rattle.judgements.specs.Judgements.{judgement_line, checked_line}
 use Rattle.judgements.specs.Meaning.{RightLine, FaultLine}
@@ -26,11 +24,11 @@ use Rattle.judgements.proofs.write_judgement.Reads as write_judgement
 use Rattle.judgements.proofs.write_checked.Reads as write_checked
 
 -- the line of a judgement: `right` and its number, or `fault`, its number, `orders` or `plan`, and its line's number; and no other line is
-pub right_line : (count : ℕ) (line : List ℕ) → (line ≡ judgement_line (judgement.Right count)) ↔ RightLine count line
+pub right_line : (count : ℕ) (line : List ℕ) → (line ≡ judgement_line (Ok count)) ↔ RightLine count line
 right_line = lines.right_line
 
 pub fault_line :
-    (fault : Fault) (line : List ℕ) → (line ≡ judgement_line (judgement.Wrong fault)) ↔ FaultLine fault.number fault.plan fault.line line
+    (fault : Fault) (line : List ℕ) → (line ≡ judgement_line (Err fault)) ↔ FaultLine fault.number fault.plan fault.line line
 fault_line = lines.fault_line
 
 -- a line says right with one number, or one fault's number, text and line, and never both
@@ -79,14 +77,14 @@ pub checked_fits :
 checked_fits κs list plan buffer answer after learnt = learnt.1.1
 
 pub judgement_fits :
-    (κs : Lfts 1) (judgement : Judgement) (buffer : _) (answer : Result ℕ ℕ) (after : _) → write_judgement.Learnt κs (judgement, (buffer, tt)) answer after
+    (κs : Lfts 1) (judgement : Result ℕ Fault) (buffer : _) (answer : Result ℕ ℕ) (after : _) → write_judgement.Learnt κs (judgement, (buffer, tt)) answer after
     → length (judgement_line judgement) ≤ 48
 judgement_fits κs judgement buffer answer after learnt = learnt.1.1
 
 -- 1b, 1c: a judgement is refused by 7 exactly when its line is longer than the buffer, and every byte stays; in every other case its line
 -- stands at the front, every other byte stays, and its length is answered
 pub judgement_writes :
-    (κs : Lfts 1) (judgement : Judgement) (buffer : _) (answer : Result ℕ ℕ) (after : _) → write_judgement.Learnt κs (judgement, (buffer, tt)) answer after
+    (κs : Lfts 1) (judgement : Result ℕ Fault) (buffer : _) (answer : Result ℕ ℕ) (after : _) → write_judgement.Learnt κs (judgement, (buffer, tt)) answer after
     → Writes (Unit {0}) (judgement_line judgement) buffer.now answer after.1.0.now
 judgement_writes κs judgement buffer answer after learnt =
     answers.writes true (Unit {0}) answers.always (judgement_line judgement) buffer.now (right (judgement_line judgement)) refl answer after.1.0.now
@@ -94,7 +92,7 @@ judgement_writes κs judgement buffer answer after learnt =
 
 -- 1d: each public function's contract admits a single outcome
 pub write_judgement_single :
-    (κs : Lfts 1) (judgement : Judgement) (buffer : _) (one other : Result ℕ ℕ) (held kept : _) → write_judgement.Learnt κs (judgement, (buffer, tt)) one held
+    (κs : Lfts 1) (judgement : Result ℕ Fault) (buffer : _) (one other : Result ℕ ℕ) (held kept : _) → write_judgement.Learnt κs (judgement, (buffer, tt)) one held
     → write_judgement.Learnt κs (judgement, (buffer, tt)) other kept → (one ≡ other) × (held.1.0.now ≡ kept.1.0.now)
 write_judgement_single κs judgement buffer one other held kept p q = answers.single one other p.0 q.0 (p.1.0 ∙ sym q.1.0)
 

@@ -2,7 +2,7 @@
 // Any judgement, any texts and any buffer may come. Assumes nothing.
 #![tactic(auto)]
 
-ghost use Rattle.std.specs.Prelude.{◌≡◌, ◌≤◌, length};
+ghost use Rattle.std.specs.Prelude.{◌≡◌, ◌≤◌, length, Ok, Err};
 ghost use Rattle.ground.specs.Refusal.{right};
 ghost use Rattle.ground.specs.Buffer.{fitted, length_of, buffer_after};
 ghost use Rattle.fields.specs.Fields.{tab};
@@ -15,21 +15,18 @@ ghost use Rattle.judgements.specs.Steps.{judgement_put};
 use plans::{Fault, Judgement, judge};
 use writer::{LINE_ROOM, Written, put_number, put_word, write_line};
 
-// Puts the word for the text at fault and a tab behind a line so far.
-fn put_text(so_far: Written, plan: bool, own: &mut [u8]) -> Written
-    ensures result_value { as_length result ≡ place_after (as_length so_far) (right (text_word plan)) tab own.old }
-    ensures own_after { own.new ≡ held_after (as_length so_far) (right (text_word plan)) tab own.old }
+// The word for the text at fault.
+#[tactic(auto, unfolding(ground::specs::Text::bytes))]
+fn text_word(plan: bool) -> &'static [u8]
+    ensures { result.now ≡ text_word plan }
 {
-    if plan {
-        return put_word(so_far, b"plan", b'\t', own);
-    }
-    put_word(so_far, b"orders", b'\t', own)
+    if plan { b"plan" } else { b"orders" }
 }
 
 // Puts the line of a right plan at the front of a buffer. It is short enough for the room of a line.
 fn put_right(count: u32, own: &mut [u8]) -> Written
-    ensures comes { Comes (right 0) (judgement_put (Judgement.Right count)) own.old (as_length result) own.new }
-    ensures count_bound { bytes_of_all (judgement_put (Judgement.Right count)) ≤ line_room }
+    ensures comes { Comes (right 0) (judgement_put (Ok count)) own.old (as_length result) own.new }
+    ensures count_bound { bytes_of_all (judgement_put (Ok count)) ≤ line_room }
 {
     let worded = put_word(Ok(0), b"right", b'\t', own);
     put_number(worded, count, b'\n', own)
@@ -37,12 +34,12 @@ fn put_right(count: u32, own: &mut [u8]) -> Written
 
 // Puts the line of a fault at the front of a buffer. It is short enough for the room of a line.
 fn put_fault(fault: Fault, own: &mut [u8]) -> Written
-    ensures comes { Comes (right 0) (judgement_put (Judgement.Wrong fault)) own.old (as_length result) own.new }
-    ensures fault_bound { bytes_of_all (judgement_put (Judgement.Wrong fault)) ≤ line_room }
+    ensures comes { Comes (right 0) (judgement_put (Err fault)) own.old (as_length result) own.new }
+    ensures fault_bound { bytes_of_all (judgement_put (Err fault)) ≤ line_room }
 {
     let worded = put_word(Ok(0), b"fault", b'\t', own);
     let numbered = put_number(worded, fault.number, b'\t', own);
-    let named = put_text(numbered, fault.plan, own);
+    let named = put_word(numbered, text_word(fault.plan), b'\t', own);
     put_number(named, fault.line, b'\n', own)
 }
 
@@ -52,8 +49,8 @@ fn put_judgement(judgement: Judgement, own: &mut [u8]) -> Written
     ensures judgement_bound { bytes_of_all (judgement_put judgement) ≤ line_room }
 {
     match judgement {
-        Judgement::Right(count) => put_right(count, own),
-        Judgement::Wrong(fault) => put_fault(fault, own),
+        Ok(count) => put_right(count, own),
+        Err(fault) => put_fault(fault, own),
     }
 }
 

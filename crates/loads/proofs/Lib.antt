@@ -1,4 +1,3 @@
 -- The laws of this room, by what they are about.
-pub mod Checks
 pub mod Refusals
 pub mod Promises

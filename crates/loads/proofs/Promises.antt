@@ -1,12 +1,15 @@
 -- What this room promises, about the very contracts of its functions. Each is a line over a law of this folder. Assumes nothing.
 use Prim.Native.Nat.{ℕ, ◌+◌, ◌-◌, ◌<◌}
-use mathlib.Core.Path.{◌≡◌, sym, ◌∙◌}
+use mathlib.Core.Path.{◌≡◌, sym, ap, ◌∙◌}
 use mathlib.Core.Bool.{Bool, true}
 use mathlib.Core.Logic.{◌↔◌}
 use contract.Lifetimes.{Lfts}
-use Rattle.ground.specs.Refusal.{number_of}
+use Rattle.std.specs.Prelude.{Result}
+use Rattle.ground.specs.Refusal.{number_of, as_read}
 use Rattle.ground.specs.Outcome.{Single}
-use Rattle.ground.proofs.Outcome.{single_value}
+use Rattle.ground.specs.declared.Refusal.{Refusal}
+use Rattle.ground.proofs.Outcome.{single_value, single_answer}
+use Rattle.ground.proofs.Refusals.{answers_told}
 use Rattle.lines.specs.declared.Load.{Load}
 use Rattle.loads.specs.Checks.{load_marked, overlap, load_from}
 use Rattle.loads.specs.Meaning.{Refused}
@@ -15,14 +18,14 @@ use Rattle.loads.proofs.load_refusal.Reads as load_refusal
 use Rattle.loads.proofs.overlap.Reads as overlapping
 use Rattle.loads.proofs.Refusals as refusals
 
--- 1b: a load is answered by 11, 12, 13, 14 or 0, each exactly when the table says
+-- 1b: a load is answered by 11, 12, 13, 14 or, in time, by none, which is 0 here; each exactly when the table says
 pub refused_exactly :
-    (κs : Lfts 3) (load : Load) (run : ℕ) (readies dues lines : _) (number : ℕ) (after : _)
-    → load_refusal.Learnt κs (load, (run, (readies, (dues, (lines, tt))))) number after → (given : ℕ)
-    → (number ≡ given) ↔ Refused run readies.now dues.now lines.now load given
-refused_exactly κs load run readies dues lines number after learnt given =
+    (κs : Lfts 3) (load : Load) (run : ℕ) (readies dues lines : _) (answer : Result (Unit {0}) Refusal) (after : _)
+    → load_refusal.Learnt κs (load, (run, (readies, (dues, (lines, tt))))) answer after → (given : ℕ)
+    → (number_of (as_read answer) ≡ given) ↔ Refused run readies.now dues.now lines.now load given
+refused_exactly κs load run readies dues lines answer after learnt given =
     let law = refusals.refusal_exactly run readies.now dues.now lines.now load given in
-    (λ same. law.0 (sym learnt ∙ same), λ refused. learnt ∙ law.1 refused)
+    (λ same. law.0 (sym (ap number_of learnt) ∙ same), λ refused. ap number_of learnt ∙ law.1 refused)
 
 -- "Two loads overlap when each starts before the other ends", in one chamber
 pub overlap_exactly :
@@ -43,8 +46,8 @@ place_of_single κs order after = single_value (order - 2)
 
 pub load_refusal_single :
     (κs : Lfts 3) (load : Load) (run : ℕ) (readies dues lines : _) (after : _)
-    → Single (λ number. load_refusal.Learnt κs (load, (run, (readies, (dues, (lines, tt))))) number after)
-load_refusal_single κs load run readies dues lines after = single_value (number_of (load_marked run readies.now dues.now lines.now load))
+    → Single (λ answer. load_refusal.Learnt κs (load, (run, (readies, (dues, (lines, tt))))) answer after)
+load_refusal_single κs load run readies dues lines after = single_answer as_read answers_told (load_marked run readies.now dues.now lines.now load)
 
 pub overlap_single :
     (κs : Lfts 0) (hold chamber start other begins : ℕ) (after : _)

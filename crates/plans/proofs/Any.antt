@@ -1,41 +1,19 @@
 -- A test that is made of several things until it holds. Assumes nothing.
-use mathlib.Core.Path.{◌≡◌, refl, ap}
+use mathlib.Core.Path.{◌≡◌, refl, sym, ap}
 use mathlib.Core.Bool.{Bool, true, false, ◌||◌}
 use mathlib.Core.Logic.{◌↔◌}
 use mathlib.Core.List.{List, [], ◌∷◌, ◌++◌, map}
+use Rattle.std.proofs.Math.Bool.{or_assoc, or-false}
 use Rattle.ground.proofs.Tests.{by_test, never_both, not_met}
 use Rattle.orders.specs.Meaning.{Each, Some}
 use Rattle.orders.proofs.Each.{each_none, each_before}
 use Rattle.plans.specs.Judging.{any_of}
 
--- Tests joined by "or".
--- one after another
-or_three : (one other last : Bool) → (one || (other || last)) ≡ ((one || other) || last)
-or_three true other last = refl
-or_three false other last = refl
-
--- with one that fails
-pub or_false : (one : Bool) → (one || false) ≡ one
-or_false true = refl
-or_false false = refl
-
--- with one that holds
-pub or_true : (one : Bool) → (one || true) ≡ true
-or_true true = refl
-or_true false = refl
-
--- the other way round
-pub or_swap : (one other : Bool) → (one || other) ≡ (other || one)
-or_swap true true = refl
-or_swap true false = refl
-or_swap false true = refl
-or_swap false false = refl
-
 -- it holds of any of them and one more where it holds of any of them or of that one
 pub any_more : {A : Type 0} (test : A → Bool) (all : List A) (last : A) → any_of test (all ++ last ∷ []) ≡ (any_of test all || test last)
 unfolding any_of
-any_more test [] last = or_false (test last)
-any_more test (one ∷ all) last = rw (any_more test all last) (or_three (test one) (any_of test all) (test last))
+any_more test [] last = or-false (test last)
+any_more test (one ∷ all) last = rw (any_more test all last) (sym (or_assoc (test one) (any_of test all) (test last)))
 
 -- a test of what is made of each of them
 pub any_map : {A B : Type 0} (test : B → Bool) (make : A → B) (all : List A) → any_of test (map make all) ≡ any_of (λ one. test (make one)) all

@@ -13,7 +13,8 @@ use Rattle.ground.proofs.Tests.{by_test}
 use Rattle.lines.specs.declared.Load.{Load}
 use Rattle.loads.specs.Checks.{overlap, load_from}
 use Rattle.plans.specs.Judging.{any_of, overlaps_any}
-use Rattle.plans.proofs.Any.{any_more, or_swap, or_false}
+use Rattle.std.proofs.Math.Bool.{or_comm, or-false}
+use Rattle.plans.proofs.Any.{any_more}
 
 -- from a plan line back the loads of a chamber are these, with the starts that are kept for their lines
 abbrev pub Chain : List ℕ → List ℕ → ℕ → ℕ → List Load → Type 0
@@ -81,7 +82,7 @@ module _ (starts befores : List ℕ) (seen : List Load) (new : Load) (sizes : (l
         same =
             λ held load there.
             ap (λ rest. overlap held load new || rest) (before.same held load there)
-            ∙ or_swap (overlap held load new) (overlaps_any held load seen)
+            ∙ or_comm (overlap held load new) (overlaps_any held load seen)
             ∙ sym (any_more (overlap held load) seen new);
       }
 
@@ -100,7 +101,7 @@ module _ (starts befores : List ℕ) (seen : List Load) (new : Load) (sizes : (l
             ∙ sym
             (any_more (overlap held load) seen new
             ∙ ap (λ last. overlaps_any held load seen || last) (other_chamber held load new (λ same. other (sym there ∙ same)))
-            ∙ or_false (overlaps_any held load seen));
+            ∙ or-false (overlaps_any held load seen));
       }
 
   -- so in each chamber, where the last lines of the chambers are kept
@@ -132,10 +133,6 @@ Searched starts befores held load first line =
     (line ≤ first)
     × ((loads : List Load) → Chain starts befores load.chamber first loads
     → (left : List Load) × Chain starts befores load.chamber line left × (overlaps_any held load left ≡ overlaps_any held load loads))
-
--- at the first line all is left
-pub searched_top : (starts befores : List ℕ) (held : ℕ) (load : Load) (first : ℕ) → Searched starts befores held load first first
-searched_top starts befores held load first = (omega arith, λ loads chain. (loads, chain, refl))
 
 module _ (starts befores : List ℕ) (held : ℕ) (load : Load) (first line : ℕ) (searched : Searched starts befores held load first line)
     (loads : List Load) (chain : Chain starts befores load.chamber first loads) where

@@ -2,7 +2,6 @@
 pub mod Any
 pub mod Going
 pub mod Pigeonhole
-pub mod Loading
 pub mod Orders
 pub mod Chains
 pub mod Planning

@@ -2,28 +2,28 @@
 use Prim.Native.Nat.{ℕ, ◌+◌, ◌≤◌, ◌<◌}
 use mathlib.Core.Path.{◌≡◌, refl, sym, ap, ◌∙◌}
 use mathlib.Core.Bool.{false}
-use mathlib.Core.List.{List, [], ◌∷◌, ◌++◌, map}
+use mathlib.Core.List.{List, [], ◌∷◌, ◌++◌}
 use lib.ListN.{length, take, set, length-set}
 use lib.Seq.{take-suc-set}
 use native.Mathlib.Numerals.{add-one}
 use native.Mathlib.Omega.{arith}
-use Rattle.ground.specs.Refusal.{Read, wrong, right, number_of}
+use Rattle.std.proofs.lemmas.List.{map-append}
+use Rattle.ground.specs.Refusal.{Read, wrong, right}
 use Rattle.ground.specs.Limits.{most_orders, longest_text}
-use Rattle.ground.proofs.Checks.{refused_by}
 use Rattle.texts.specs.Lines.{line_at, past_line}
 use Rattle.lines.specs.Reading.{order_of}
 use Rattle.lines.specs.declared.Order.{Order}
-use Rattle.lines.proofs.Promises.{order_fault, line_fault_from}
-use Rattle.book.specs.Taking.{decided, next_book, told, answer_of}
-use Rattle.book.specs.declared.Book.{Book}
-use Rattle.std.specs.Prelude.{Option, Some, None}
+use Rattle.book.specs.Taking.{next_book, told, answer_of}
+use Rattle.book.specs.declared.Answer.TheVariants.{Refused}
+use Rattle.std.specs.Prelude.{Option}
 use Rattle.choice.specs.declared.Offer.{Offer}
-use Rattle.book.proofs.Refusals.{by_choice, never_by_none}
-use Rattle.orders.specs.Answers.{decision, Stepped}
+use Rattle.book.proofs.Refusals.{by_choice}
+use Rattle.book.proofs.Promises.{answer_told}
+use Rattle.orders.specs.Answers.{decision, refusals_in, Stepped}
 use Rattle.orders.specs.Steps.{line_after}
 use Rattle.orders.specs.declared.Progress.{Progress}
 use Rattle.orders.specs.declared.Step.{Step}
-use Rattle.orders.proofs.Clean.{decision_right, next_counts}
+use Rattle.orders.proofs.Clean.{decision_right, next_counts, decided_unrefused}
 use Rattle.orders.proofs.Places.{moves_on}
 use Rattle.plans.specs.Judging.{ListKnown, note_order}
 use Rattle.plans.specs.Meaning.{fault_of}
@@ -31,23 +31,15 @@ use Rattle.plans.specs.Steps.{orders_left, HoursAre}
 use Rattle.plans.proofs.Going.{through_done, through_on, through_stops}
 use Rattle.plans.proofs.Listing.{line_noted, line_refused}
 
--- the number that an answer tells is that of its refusal
-pub told_number : (decision : Read (Option Offer)) → (told (answer_of decision)).refusal ≡ number_of decision
-told_number (wrong number) = refl
-told_number (right None) = refl
-told_number (right (Some offer)) = refl
+-- an answer that is a refusal is that of a line that the desk refuses
+refusing : (decision : Read (Option Offer)) (number : ℕ) → answer_of decision ≡ Refused number → decision ≡ wrong number
+refusing (wrong other) number same = ap (λ answer. wrong (told answer).refusal) same
+refusing (right choice) number same = absurd (omega (arith, ap refusals_in same, decided_unrefused choice))
 
--- no line is refused by 0: where there is no number, the desk decides
-decides : (book : Book) (line : List ℕ) → number_of (decision book (order_of line)) ≡ 0 → (choice : Option Offer) × (decision book (order_of line) ≡ right choice)
-decides book line none = go (order_of line) refl none
-  where
-    of_order : (order : Order) (made : Read (Option Offer)) → decided book order.ready order.due ≡ made → number_of made ≡ 0 → (choice : Option Offer) × (made ≡ right choice)
-    of_order order (wrong number) refused none = absurd (never_by_none book order.ready order.due (refused ∙ ap wrong none))
-    of_order order (right choice) chosen none = (choice, refl)
-
-    go : (read : Read Order) → order_of line ≡ read → number_of (decision book read) ≡ 0 → (choice : Option Offer) × (decision book read ≡ right choice)
-    go (wrong number) refused none = absurd (omega (arith, none, (line_fault_from ((order_fault line number).0 refused)).0))
-    go (right order) reads none = of_order order (decided book order.ready order.due) refl none
+-- and any other is that of a line that it decides of
+deciding : (decision : Read (Option Offer)) → ((number : ℕ) → answer_of decision ≡ Refused number → ⊥) → (choice : Option Offer) × (decision ≡ right choice)
+deciding (wrong number) none = absurd (none number refl)
+deciding (right choice) none = (choice, refl)
 
 -- A step through a list.
 module _ (list : List ℕ) (progress : Progress) (step : Step) (stepped : Stepped list progress step) where
@@ -55,9 +47,9 @@ module _ (list : List ℕ) (progress : Progress) (step : Step) (stepped : Steppe
   abbrev line : List ℕ
   line = line_at list progress.at
 
-  -- its number is that of its refusal
-  number_is : (told step.answer).refusal ≡ number_of (decision progress.book (order_of line))
-  number_is = ap (λ said. said.refusal) stepped.said ∙ told_number (decision progress.book (order_of line))
+  -- what it is answered
+  its_answer : step.answer ≡ answer_of (decision progress.book (order_of line))
+  its_answer = answer_told step.answer (answer_of (decision progress.book (order_of line))) stepped.said
 
   -- the place past it
   pub past_is : step.progress.at ≡ past_line list progress.at
@@ -70,20 +62,18 @@ module _ (list : List ℕ) (progress : Progress) (step : Step) (stepped : Steppe
 
     -- a line that is refused is the fault
     pub step_stops :
-        (orders : List Order) → ((told step.answer).refusal ≡ 0 → ⊥)
-        → orders_left list progress orders ≡ wrong (fault_of (told step.answer).refusal false progress.line progress.at step.progress.at)
-    step_stops orders some =
+        (orders : List Order) (number : ℕ) → step.answer ≡ Refused number
+        → orders_left list progress orders ≡ wrong (fault_of number false progress.line progress.at step.progress.at)
+    step_stops orders number refuses =
         let known : ListKnown = record { book = progress.book; orders = orders } in
-        let number = (told step.answer).refusal in
-        let refused : decision progress.book (order_of line) ≡ wrong number =
-        refused_by (decision progress.book (order_of line)) (λ none. some (number_is ∙ none)) ∙ ap wrong (sym number_is) in
+        let refused = refusing (decision progress.book (order_of line)) number (sym its_answer ∙ refuses) in
         rw past_is
         (through_stops note_order false progress.line progress.at known list inside number ((line_refused known line number).1 refused))
 
-    module _ (none : (told step.answer).refusal ≡ 0) where
+    module _ (none : (number : ℕ) → step.answer ≡ Refused number → ⊥) where
       -- else the desk decides of its order
       decided_of : (choice : Option Offer) × (decision progress.book (order_of line) ≡ right choice)
-      decided_of = decides progress.book line (sym number_is ∙ none)
+      decided_of = deciding (decision progress.book (order_of line)) (λ number refuses. none number (its_answer ∙ refuses))
 
       -- the book had room for it and took it
       pub step_counts : (progress.book.taken < most_orders) × (step.progress.book.taken ≡ progress.book.taken + 1)
@@ -112,11 +102,6 @@ module _ (list : List ℕ) (progress : Progress) (step : Step) (stepped : Steppe
 stored : (hours : List ℕ) (count hour : ℕ) → count < length hours → take (count + 1) (set hours count hour) ≡ take count hours ++ hour ∷ []
 stored hours count hour room = rw add-one (take-suc-set hours count hour room)
 
--- a list and one more, hour by hour
-map_more : (hour : Order → ℕ) (orders : List Order) (order : Order) → map hour orders ++ hour order ∷ [] ≡ map hour (orders ++ order ∷ [])
-map_more hour [] order = refl
-map_more hour (first ∷ orders) order = ap (λ rest. hour first ∷ rest) (map_more hour orders order)
-
 -- how far a list has been gone through: what is left gives what the whole gives, and the hours of the orders before stand in the buffers
 pub record Gone (list : List ℕ) (begun : Progress) (readies dues : List ℕ) (progress : Progress) (count : ℕ) : Type 0 where
   pub orders : List Order
@@ -127,21 +112,6 @@ pub record Gone (list : List ℕ) (begun : Progress) (readies dues : List ℕ) (
   pub low : progress.line ≤ progress.at + 2
   pub sized : (length readies ≡ most_orders) × (length dues ≡ most_orders)
 
--- at the top there is none
-pub gone_top :
-    (list : List ℕ) (begun : Progress) (readies dues : List ℕ) → (length readies ≡ most_orders) × (length dues ≡ most_orders)
-    → (begun.book.taken ≡ 0) × (begun.line ≤ begun.at + 2) → Gone list begun readies dues begun 0
-gone_top list begun readies dues sized fresh =
-    record {
-      orders = [];
-      whole = refl;
-      hours = record { ready_hours = refl; due_hours = refl };
-      counted = fresh.0;
-      few = omega arith;
-      low = fresh.1;
-      sized = sized;
-    }
-
 module _ {list : List ℕ} {begun : Progress} {readies dues : List ℕ} {progress : Progress} {count : ℕ} (gone : Gone list begun readies dues progress count) where
   -- past the end all stand there
   pub gone_end : length list ≤ progress.at → orders_left list begun [] ≡ right (record { book = progress.book; orders = gone.orders })
@@ -150,11 +120,11 @@ module _ {list : List ℕ} {begun : Progress} {readies dues : List ℕ} {progres
   module _ (step : Step) (stepped : Stepped list progress step) (inside : progress.at < length list) where
     -- a line that is refused is the fault
     pub gone_fault :
-        ((told step.answer).refusal ≡ 0 → ⊥)
-        → orders_left list begun [] ≡ wrong (fault_of (told step.answer).refusal false progress.line progress.at step.progress.at)
-    gone_fault some = sym gone.whole ∙ step_stops list progress step stepped inside gone.orders some
+        (number : ℕ) → step.answer ≡ Refused number
+        → orders_left list begun [] ≡ wrong (fault_of number false progress.line progress.at step.progress.at)
+    gone_fault number refuses = sym gone.whole ∙ step_stops list progress step stepped inside gone.orders number refuses
 
-    module _ (none : (told step.answer).refusal ≡ 0) where
+    module _ (none : (number : ℕ) → step.answer ≡ Refused number → ⊥) where
       -- there is room for its hours
       pub gone_room : count < most_orders
       gone_room = omega (arith, (step_counts list progress step stepped inside none).0, gone.counted)
@@ -175,11 +145,11 @@ module _ {list : List ℕ} {begun : Progress} {readies dues : List ℕ} {progres
                   ready_hours =
                       stored readies count order.ready (omega (arith, room, gone.sized.0))
                       ∙ ap (λ before. before ++ order.ready ∷ []) gone.hours.ready_hours
-                      ∙ map_more (λ one. one.ready) gone.orders order;
+                      ∙ sym (map-append (λ (one : Order). one.ready) gone.orders (order ∷ []));
                   due_hours =
                       stored dues count order.due (omega (arith, room, gone.sized.1))
                       ∙ ap (λ before. before ++ order.due ∷ []) gone.hours.due_hours
-                      ∙ map_more (λ one. one.due) gone.orders order;
+                      ∙ sym (map-append (λ (one : Order). one.due) gone.orders (order ∷ []));
                 };
             counted = omega (arith, counts.1, gone.counted);
             few = omega (arith, room);

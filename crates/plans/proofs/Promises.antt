@@ -6,6 +6,7 @@ use mathlib.Core.Logic.{◌↔◌, ◌⊎◌, inl, inr}
 use mathlib.Core.List.{List, []}
 use lib.ListN.{length}
 use contract.Lifetimes.{Lfts}
+use Rattle.std.specs.Prelude.{Result, Ok, Err}
 use Rattle.ground.specs.Refusal.{Or, wrong, right}
 use Rattle.ground.specs.Limits.{longest_text}
 use Rattle.ground.specs.Outcome.{Injective, Single}
@@ -24,8 +25,6 @@ use Rattle.orders.specs.Meaning.{CleanList}
 use Rattle.plans.specs.Judging.{note_load, judged, as_judged, shown}
 use Rattle.plans.specs.Meaning.{fault_of, hold_of, Obeys, LoadWrong, FirstFault, RightBefore, PartShown}
 use Rattle.plans.specs.declared.Fault.{Fault}
-use Rattle.plans.specs.declared.Judgement.{Judgement}
-use Rattle.plans.specs.declared.Judgement.TheVariants as judgement
 use Rattle.plans.proofs.judge.Reads as judge
 use Rattle.plans.proofs.line_at_fault.Reads as at_fault
 use Rattle.plans.proofs.Judged as judging
@@ -96,28 +95,28 @@ pub nine_only :
 nine_only = faults.nine_only
 
 -- the paper's answer tells the cases of a judgement apart
-judgement_told : Injective as_judged
-judgement_told (judgement.Right one) (judgement.Right other) same = ap judgement.Right (same_right same)
-judgement_told (judgement.Right one) (judgement.Wrong other) same = absurd (never_right (sym same))
-judgement_told (judgement.Wrong one) (judgement.Right other) same = absurd (never_right same)
-judgement_told (judgement.Wrong one) (judgement.Wrong other) same = ap judgement.Wrong (same_wrong same)
+judgement_told : Injective (as_judged {E = Fault} {A = ℕ})
+judgement_told (Ok one) (Ok other) same = ap Ok (same_right same)
+judgement_told (Ok one) (Err other) same = absurd (never_right (sym same))
+judgement_told (Err one) (Ok other) same = absurd (never_right same)
+judgement_told (Err one) (Err other) same = ap Err (same_wrong same)
 
 -- 2f of the answer itself: it is right with a number exactly when the plan obeys the list and has so many lines
 pub answers_right :
-    (κs : Lfts 2) (list plan : _) (answer : Judgement) (after : _) → judge.Learnt κs (list, (plan, tt)) answer after → (count : ℕ)
-    → (answer ≡ judgement.Right count) ↔ (Obeys list.now plan.now × (count ≡ length (lines_of plan.now)))
+    (κs : Lfts 2) (list plan : _) (answer : Result ℕ Fault) (after : _) → judge.Learnt κs (list, (plan, tt)) answer after → (count : ℕ)
+    → (answer ≡ Ok count) ↔ (Obeys list.now plan.now × (count ≡ length (lines_of plan.now)))
 answers_right κs list plan answer after learnt count = (
   λ same. (right_exactly list.now plan.now count).0 (sym learnt ∙ ap as_judged same),
-  λ obeys. judgement_told answer (judgement.Right count) (learnt ∙ (right_exactly list.now plan.now count).1 obeys),
+  λ obeys. judgement_told answer (Ok count) (learnt ∙ (right_exactly list.now plan.now count).1 obeys),
 )
 
 -- and wrong by a fault exactly when that is the first, with the line shown
 pub answers_wrong :
-    (κs : Lfts 2) (list plan : _) (answer : Judgement) (after : _) → judge.Learnt κs (list, (plan, tt)) answer after → (fault : Fault)
-    → (answer ≡ judgement.Wrong fault) ↔ FirstFault list.now plan.now fault (shown fault list.now plan.now)
+    (κs : Lfts 2) (list plan : _) (answer : Result ℕ Fault) (after : _) → judge.Learnt κs (list, (plan, tt)) answer after → (fault : Fault)
+    → (answer ≡ Err fault) ↔ FirstFault list.now plan.now fault (shown fault list.now plan.now)
 answers_wrong κs list plan answer after learnt fault = (
   λ same. (fault_exactly list.now plan.now fault).0 (sym learnt ∙ ap as_judged same),
-  λ first. judgement_told answer (judgement.Wrong fault) (learnt ∙ (fault_exactly list.now plan.now fault).1 first),
+  λ first. judgement_told answer (Err fault) (learnt ∙ (fault_exactly list.now plan.now fault).1 first),
 )
 
 -- "Where there is no line (fault 9 or an empty list, which is 1), the line number is … 1 for the empty list, and the part shown is the
@@ -150,10 +149,10 @@ line_at_fault_lies κs list plan part fault after learnt = (
 -- 2f: so with the fault that `judge` answers it is the line of the first fault
 pub line_at_fault_first :
     (κs : Lfts 2) (ks : Lfts 1) (list plan part : _) (fault : Fault) (after later : _)
-    → judge.Learnt κs (list, (plan, tt)) (judgement.Wrong fault) after → at_fault.Learnt ks (list, (plan, (fault, tt))) part later
+    → judge.Learnt κs (list, (plan, tt)) (Err fault) after → at_fault.Learnt ks (list, (plan, (fault, tt))) part later
     → FirstFault list.now plan.now fault part.now
 line_at_fault_first κs ks list plan part fault after later judged_so shows =
-    rw shows.0 ((answers_wrong κs list plan (judgement.Wrong fault) after judged_so fault).0 refl)
+    rw shows.0 ((answers_wrong κs list plan (Err fault) after judged_so fault).0 refl)
 
 -- 1a: no public function asks anything of what it is passed
 pub nothing_asked :

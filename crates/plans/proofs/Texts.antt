@@ -1,15 +1,13 @@
 -- The judgement of both texts: how the list begins, its orders, then the plan. Assumes nothing.
-use Prim.Native.Nat.{ℕ, zero, suc, ◌+◌, ◌≤◌, ◌<◌}
+use Prim.Native.Nat.{ℕ, zero, suc, ◌+◌, ◌≤◌}
 use mathlib.Core.Path.{◌≡◌, refl, sym, ap, ◌∙◌}
 use mathlib.Core.Bool.{true, false, not}
 use mathlib.Core.List.{List, [], ◌∷◌, ◌++◌}
 use lib.ListN.{length, get_or, take, length-map, get_or-map}
-use lib.Dec.{leb}
 use native.Mathlib.Omega.{arith}
-use borrow.Author.Tests.{leb-true, leb-false, le-leb}
+use Rattle.std.specs.Prelude.{Ok}
 use Rattle.ground.specs.Refusal.{Read, wrong, right, check, ◌>>=◌, ◌>>◌}
-use Rattle.ground.specs.Limits.{longest_text, most_chambers}
-use Rattle.ground.proofs.Tests.{by_test}
+use Rattle.ground.specs.Limits.{most_chambers}
 use Rattle.texts.specs.Lines.{line_at, past_line, lines_of}
 use Rattle.lines.specs.Reading.{load_of}
 use Rattle.lines.specs.declared.Order.{Order}
@@ -23,11 +21,10 @@ use Rattle.orders.specs.declared.Progress.{Progress}
 use Rattle.orders.proofs.Beginning.{begun_wrong, begun_right, opened_fresh_book}
 use Rattle.orders.proofs.Clean.{begun_headed}
 use Rattle.orders.proofs.Places.{begun_left}
-use Rattle.plans.specs.Judging.{through, overlaps_any, load_checked, note_load, list_judged, plan_judged, loads_counted, both_judged, judged}
+use Rattle.plans.specs.Judging.{fitting, through, overlaps_any, load_checked, note_load, list_judged, plan_judged, loads_counted, both_judged, judged}
 use Rattle.plans.specs.Meaning.{fault_of}
 use Rattle.plans.specs.Steps.{orders_left, HoursAre, OrdersAre, orders_from}
-use Rattle.plans.specs.declared.OrdersRead.{OrdersRead}
-use Rattle.plans.proofs.Judged.{list_over, plan_over}
+use Rattle.plans.specs.declared.Fault.{Fault}
 
 -- A list that has begun so.
 module _ (list : List ℕ) (progress : Progress) (begun : opening list ≡ right progress.book) (there : progress ≡ begun_with list progress.book) where
@@ -106,48 +103,38 @@ module _ (orders : List Order) (readies dues : List ℕ) (hours : HoursAre order
       (λ i loads line. same_note book loads line i)
 
 module _ (list plan : List ℕ) where
-  module _ (book : Book) (read : OrdersRead) (readies dues : List ℕ) (are : OrdersAre (list_judged list book) read readies dues) where
-    -- a fault of the list is the answer
-    pub list_faulty : (read.fault.number ≡ 0 → ⊥) → wrong read.fault ≡ both_judged list plan book
-    unfolding both_judged
-    list_faulty some = rw (are.faulty some)
+  -- a fault of the list is the answer
+  pub list_faulty : (book : Book) (fault : Fault) → list_judged list book ≡ wrong fault → wrong fault ≡ both_judged list plan book
+  unfolding both_judged
+  list_faulty book fault faulty = rw faulty
 
-    -- without one the plan's judgement is
-    pub list_faultless :
-        read.fault.number ≡ 0 → loads_counted plan book (orders_from (take read.count readies) (take read.count dues)) ≡ both_judged list plan book
-    unfolding both_judged
-    list_faultless none =
-        let known = are.faultless none in
-        same_loads known.0.orders (take read.count readies) (take read.count dues) known.2 plan book ∙ rw known.1
+  -- without one the plan's judgement is, by the hours of the orders
+  pub list_faultless :
+      (book : Book) (count : ℕ) (readies dues : List ℕ) → OrdersAre (list_judged list book) (Ok count) readies dues
+      → loads_counted plan book (orders_from (take count readies) (take count dues)) ≡ both_judged list plan book
+  unfolding both_judged
+  list_faultless book count readies dues are =
+      same_loads are.0.orders (take count readies) (take count dues) are.2 plan book ∙ rw are.1
 
-  -- 9 for the list
-  pub list_nine : longest_text < length list → judged list plan ≡ wrong (fault_of 9 false 0 0 0)
-  list_nine over = list_over list plan over
+  -- How the list begins, where neither text is too long.
+  module _ (list_fits : fitting false list ≡ right tt) (plan_fits : fitting true plan ≡ right tt) where
+    -- a fault of the first line
+    pub first_line_faulty :
+        (number line : ℕ) → begun_by list (opening list) ≡ wrong (number, line) → judged list plan ≡ wrong (fault_of number false 1 0 (past_line list 0))
+    unfolding judged
+    first_line_faulty number line begun =
+        let refused = (begun_wrong list number line begun).0 in
+        rw (list_fits, plan_fits, refused)
 
-  -- Where it is not too long:
-  module _ (list_fits : length list ≤ longest_text) where
-    -- 9 for the plan
-    pub plan_nine : longest_text < length plan → judged list plan ≡ wrong (fault_of 9 true 0 0 0)
-    plan_nine over = plan_over list plan list_fits over
+    -- else the orders and the plan
+    judged_begun : (book : Book) → opening list ≡ right book → judged list plan ≡ both_judged list plan book
+    unfolding judged
+    judged_begun book opens = rw (list_fits, plan_fits, opens)
 
-    module _ (short : length plan ≤ longest_text) where
-      -- a fault of the first line
-      pub first_line_faulty :
-          (number line : ℕ) → begun_by list (opening list) ≡ wrong (number, line) → judged list plan ≡ wrong (fault_of number false 1 0 (past_line list 0))
-      unfolding judged
-      first_line_faulty number line begun =
-          let refused = (begun_wrong list number line begun).0 in
-          rw (le-leb (length list) longest_text list_fits, le-leb (length plan) longest_text short, refused)
-
-      -- else the orders and the plan
-      judged_begun : (book : Book) → opening list ≡ right book → judged list plan ≡ both_judged list plan book
-      unfolding judged
-      judged_begun book opens = rw (le-leb (length list) longest_text list_fits, le-leb (length plan) longest_text short, opens)
-
-      pub list_begun :
-          (progress : Progress) → begun_by list (opening list) ≡ right progress
-          → (opening list ≡ right progress.book) × (progress ≡ begun_with list progress.book)
-          × (judged list plan ≡ both_judged list plan progress.book)
-      list_begun progress begun =
-          let opens = begun_right list progress begun in
-          (opens.0, opens.1, judged_begun progress.book opens.0)
+    pub list_begun :
+        (progress : Progress) → begun_by list (opening list) ≡ right progress
+        → (opening list ≡ right progress.book) × (progress ≡ begun_with list progress.book)
+        × (judged list plan ≡ both_judged list plan progress.book)
+    list_begun progress begun =
+        let opens = begun_right list progress begun in
+        (opens.0, opens.1, judged_begun progress.book opens.0)

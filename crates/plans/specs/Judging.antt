@@ -1,6 +1,6 @@
 -- How a plan is judged: "The checker is lent an order list and a plan, made by whoever … The first fault is the answer, with its number,
 -- which text, its line number, and the line at fault". Assumes nothing.
-use Rattle.std.specs.Prelude.{ℕ, suc, ◌+◌, ◌≡◌, Bool, true, false, not, cond, ◌||◌, List, [], ◌∷◌, ◌++◌, length, leb, eqb}
+use Rattle.std.specs.Prelude.{ℕ, suc, ◌+◌, ◌≡◌, Bool, true, false, not, cond, ◌||◌, List, [], ◌∷◌, ◌++◌, length, leb, eqb, Result, Ok, Err}
 use Rattle.std.specs.Borrow.{Bor}
 use Rattle.ground.specs.Refusal.{Or, Read, wrong, right, check, ◌>>=◌, ◌>>◌}
 use Rattle.ground.specs.Limits.{longest_text}
@@ -14,8 +14,6 @@ use Rattle.book.specs.Taking.{hold}
 use Rattle.book.specs.declared.Book.{Book}
 use Rattle.loads.specs.Checks.{order_named, load_asked, overlap}
 use Rattle.plans.specs.declared.Fault.{Fault}
-use Rattle.plans.specs.declared.Judgement.{Judgement}
-use Rattle.plans.specs.declared.Judgement.TheVariants as judgement
 
 -- what a line comes to, with its refusal as the fault of a text: whether that is the plan, the line's number, and the place where it stands
 abbrev pub fault_at : {Known : Type 0} → Bool → ℕ → ℕ → ℕ → Read Known → Or Fault Known
@@ -99,10 +97,10 @@ judged list plan = do
   book ← fault_at false 1 0 (past_line list 0) (opening list)
   both_judged list plan book
 
--- the paper's answer for each case of a judgement
-abbrev pub as_judged : Judgement → Or Fault ℕ
-as_judged (judgement.Right count) = right count
-as_judged (judgement.Wrong fault) = wrong fault
+-- the paper's answer for each case of a judgement, or of a step of it
+abbrev pub as_judged : {E A : Type 0} → Result A E → Or E A
+as_judged (Ok count) = right count
+as_judged (Err fault) = wrong fault
 
 -- "the line at fault shown as a part of the text it stands in"
 unfoldable pub shown : Fault → List ℕ → List ℕ → List ℕ

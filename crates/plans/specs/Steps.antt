@@ -1,6 +1,6 @@
 -- What the private steps of the judge come to. The public definitions do not rest on it. Assumes nothing.
-use Rattle.std.specs.Prelude.{ℕ, ◌≤◌, ◌≡◌, false, List, [], ◌∷◌, map, take, drop}
-use Rattle.ground.specs.Refusal.{Or, Read, wrong, right, number_of}
+use Rattle.std.specs.Prelude.{ℕ, ◌≤◌, ◌≡◌, false, List, [], ◌∷◌, map, take, drop, Result, Ok, Err}
+use Rattle.ground.specs.Refusal.{Or, Read, wrong, right, ◌>>=◌, ◌>>◌}
 use Rattle.ground.specs.Limits.{most_orders}
 use Rattle.texts.specs.Lines.{lines_of}
 use Rattle.lines.specs.Reading.{load_of}
@@ -10,8 +10,6 @@ use Rattle.orders.specs.declared.Progress.{Progress}
 use Rattle.loads.specs.Checks.{order_from, load_marked}
 use Rattle.plans.specs.Judging.{ListKnown, through, note_order}
 use Rattle.plans.specs.declared.Fault.{Fault}
-use Rattle.plans.specs.declared.LoadNoted.{LoadNoted}
-use Rattle.plans.specs.declared.OrdersRead.{OrdersRead}
 
 -- what the orders of a list come to that are left where its reading has come to, with these orders before them
 abbrev pub orders_left : List ℕ → Progress → List Order → Or Fault ListKnown
@@ -25,12 +23,10 @@ pub record HoursAre (orders : List Order) (readies dues : List ℕ) : Type 0 whe
   pub due_hours : dues ≡ map (λ order. order.due) orders
 
 -- the orders of a list that were read into two buffers: the fault, or how many of them stand at the front of both
-pub record OrdersAre (all : Or Fault ListKnown) (read : OrdersRead) (readies dues : List ℕ) : Type 0 where
-  pub faulty : (read.fault.number ≡ 0 → ⊥) → all ≡ wrong read.fault
-  pub faultless :
-      read.fault.number ≡ 0
-      → (known : ListKnown) × (all ≡ right known) × HoursAre known.orders (take read.count readies) (take read.count dues)
-  pub few : read.count ≤ most_orders
+abbrev pub OrdersAre : Or Fault ListKnown → Result ℕ Fault → List ℕ → List ℕ → Type 0
+OrdersAre all (Err fault) readies dues = all ≡ wrong fault
+OrdersAre all (Ok count) readies dues =
+    (known : ListKnown) × (all ≡ right known) × HoursAre known.orders (take count readies) (take count dues) × (count ≤ most_orders)
 
 -- the orders of these hours, whoever their growers
 unfoldable pub orders_from : List ℕ → List ℕ → List Order
@@ -38,11 +34,9 @@ orders_from [] dues = []
 orders_from (ready ∷ readies) [] = []
 orders_from (ready ∷ readies) (due ∷ dues) = order_from ready due ∷ orders_from readies dues
 
--- a plan line read and checked up to 14: its refusal, 0 where there is none, and the load
-abbrev pub load_refusal : ℕ → List ℕ → List ℕ → List ℕ → Read Load → ℕ
-load_refusal run readies dues lines (wrong number) = number
-load_refusal run readies dues lines (right load) = number_of (load_marked run readies dues lines load)
-
-pub record Loaded (count run : ℕ) (readies dues lines text : List ℕ) (noted : LoadNoted) : Type 0 where
-  pub refused : noted.refusal ≡ load_refusal run readies dues lines (load_of count text)
-  pub load : noted.refusal ≡ 0 → load_of count text ≡ right noted.load
+-- a plan line read and checked up to 14, for orders of which the hours are kept
+unfoldable pub load_noted : ℕ → ℕ → List ℕ → List ℕ → List ℕ → List ℕ → Read Load
+load_noted count run readies dues lines text = do
+  load ← load_of count text
+  load_marked run readies dues lines load
+  right load

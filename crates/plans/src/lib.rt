@@ -2,17 +2,15 @@
 // Any bytes may come. Assumes nothing.
 #![tactic(auto)]
 
-ghost use Rattle.std.specs.Prelude.{◌≡◌, true, false, [], ◌+◌, ◌≤◌, length, drop};
-ghost use Rattle.ground.specs.Refusal.{wrong, right, number_of};
+ghost use Rattle.std.specs.Prelude.{◌≡◌, [], ◌+◌, ◌≤◌, length, drop};
+ghost use Rattle.ground.specs.Refusal.{right, as_read};
 ghost use Rattle.ground.specs.Limits.{most_chambers, most_orders, longest_text};
-ghost use Rattle.book.specs.Taking.{told};
-ghost use Rattle.loads.specs.Checks.{load_marked};
 ghost use Rattle.orders.specs.Answers.{opening, begun_with};
-ghost use Rattle.plans.specs.Judging.{loads_counted, both_judged, judged, as_judged, shown, ShownIn};
-ghost use Rattle.plans.specs.Steps.{orders_left, OrdersAre, orders_from, Loaded};
+ghost use Rattle.plans.specs.Judging.{fitting, loads_counted, both_judged, judged, as_judged, shown, ShownIn};
+ghost use Rattle.plans.specs.Steps.{orders_left, OrdersAre, orders_from, load_noted};
 
 use book::{Answer, Book};
-use ground::{LONGEST_TEXT, MOST_CHAMBERS, MOST_ORDERS};
+use ground::{LONGEST_TEXT, MOST_CHAMBERS, MOST_ORDERS, Refusal, check};
 use lines::{Load, read_load};
 use loads::{load_refusal, overlap, place_of};
 use orders::{Progress, begin, next};
@@ -35,55 +33,36 @@ pub struct Fault {
 }
 
 // Right with the number of plan lines, or the first fault.
-#[derive(Clone, Copy)]
-pub enum Judgement {
-    Right(u32),
-    Wrong(Fault),
-}
+pub type Judgement = Result<u32, Fault>;
 
-// What a plan line comes to up to refusal 14: the refusal's number, 0 where there is none, and the load.
-#[derive(Clone, Copy)]
-struct LoadNoted {
-    refusal: u32,
-    load: Load,
-}
-
-// The orders of a list: the fault, with number 0 where there is none, and how many orders there are.
-#[derive(Clone, Copy)]
-struct OrdersRead {
-    fault: Fault,
-    count: usize,
-}
-
-// The number of a refusal, 0 for a yes and a no.
-fn refusal_in(answer: Answer) -> u32
-    ensures { result ≡ (told answer).refusal }
-{
-    match answer {
-        Answer::Yes {
-            chamber: _,
-            start: _,
-        } => 0,
-        Answer::No => 0,
-        Answer::Refused(number) => number,
-    }
-}
-
-// No fault.
-fn faultless() -> Fault
-    ensures { result.number ≡ 0 }
+// The fault of a line by its parts.
+fn fault_at(number: u32, plan: bool, line: u32, from: usize, to: usize) -> Fault
+    ensures { result ≡ record { number = number; plan = plan; line = line; from = from; to = to } }
 {
     Fault {
-        number: 0,
-        plan: false,
-        line: 0,
-        from: 0,
-        to: 0,
+        number,
+        plan,
+        line,
+        from,
+        to,
     }
 }
 
-// The orders of a list that has begun: their hours are stored in two buffers.
-fn read_orders(list: &[u8], begun: Progress, readies: &mut [u32], dues: &mut [u32]) -> OrdersRead
+// Whether one of the two texts has a length that it may have: else it is at fault at line 0, with its empty front.
+fn fitting(text: &[u8], plan: bool) -> Result<(), Fault>
+    ensures { as_judged result ≡ fitting plan text.now }
+{
+    let fits = text.len() <= LONGEST_TEXT;
+    check(fits, Refusal::TooLong).map_err(|refusal| fault_at(refusal.number(), plan, 0, 0, 0))
+}
+
+// The orders of a list that has begun: their hours are stored at the front of two buffers, and there are so many.
+fn read_orders(
+    list: &[u8],
+    begun: Progress,
+    readies: &mut [u32],
+    dues: &mut [u32],
+) -> Result<usize, Fault>
     requires list_len_bound { length list.now ≤ longest_text }
     requires readies_len { (length readies.old ≡ most_orders) × (length dues.old ≡ most_orders) }
     requires taken_value { (begun.book.taken ≡ 0) × (begun.line ≤ begun.at + 2) }
@@ -94,72 +73,31 @@ fn read_orders(list: &[u8], begun: Progress, readies: &mut [u32], dues: &mut [u3
     while progress.at < list.len() {
         let step = next(list, progress);
         let past = step.progress;
-        let answer = step.answer;
-        let refusal = refusal_in(answer);
-        if refusal != 0 {
-            let fault = Fault {
-                number: refusal,
-                plan: false,
-                line: progress.line,
-                from: progress.at,
-                to: past.at,
-            };
-            return OrdersRead { fault, count };
+        if let Answer::Refused(number) = step.answer {
+            return Err(fault_at(number, false, progress.line, progress.at, past.at));
         }
-        let order = step.order;
-        readies[count] = order.ready;
-        dues[count] = order.due;
+        readies[count] = step.order.ready;
+        dues[count] = step.order.due;
         count += 1;
         progress = past;
     }
-    let fault = faultless();
-    OrdersRead { fault, count }
-}
-
-// A load that reads, checked up to refusal 14.
-fn checked(load: Load, run: u32, readies: &[u32], dues: &[u32], lines: &[u32]) -> LoadNoted
-    ensures { result
-        ≡ record {
-          refusal = number_of (load_marked run readies.now dues.now lines.now load);
-          load = load;
-        } }
-{
-    LoadNoted {
-        refusal: load_refusal(load, run, readies, dues, lines),
-        load,
-    }
+    Ok(count)
 }
 
 // A plan line, for a list that begins with this book, read and checked up to refusal 14.
-fn note_load(line: &[u8], book: Book, readies: &[u32], dues: &[u32], lines: &[u32]) -> LoadNoted
-    ensures { Loaded book.chambers book.run readies.now dues.now lines.now
-        line.now result }
+#[tactic(auto, unfolding(crate::specs::Steps::load_noted))]
+fn note_load(
+    line: &[u8],
+    book: Book,
+    readies: &[u32],
+    dues: &[u32],
+    lines: &[u32],
+) -> Result<Load, Refusal>
+    ensures { as_read result ≡ load_noted book.chambers book.run readies.now dues.now lines.now line.now }
 {
-    match read_load(line, book.chambers) {
-        Ok(load) => checked(load, book.run, readies, dues, lines),
-        Err(refusal) => LoadNoted {
-            refusal: refusal.number(),
-            load: Load {
-                order: 0,
-                chamber: 0,
-                start: 0,
-            },
-        },
-    }
-}
-
-// The fault of a plan line.
-fn plan_fault(number: u32, line: u32, from: usize, to: usize) -> Judgement
-    ensures { as_judged result ≡ wrong (record { number = number; plan = true; line = line; from = from; to = to }) }
-{
-    let in_plan = Fault {
-        number,
-        plan: true,
-        line,
-        from,
-        to,
-    };
-    Judgement::Wrong(in_plan)
+    let load = read_load(line, book.chambers)?;
+    load_refusal(load, book.run, readies, dues, lines)?;
+    Ok(load)
 }
 
 // The loads of a plan, for a list that begins with this book and has orders of these hours: each plan line is noted, and the first earlier
@@ -180,11 +118,7 @@ fn judge_plan(plan: &[u8], book: Book, readies: &[u32], dues: &[u32]) -> Judgeme
     'plan: while at < plan.len() {
         let end = line_end(plan, at);
         let noted = note_load(&plan[at..end], book, readies, dues, &lines);
-        let number = noted.refusal;
-        if number != 0 {
-            return plan_fault(number, line, at, end);
-        }
-        let load = noted.load;
+        let load = noted.map_err(|refusal| fault_at(refusal.number(), true, line, at, end))?;
         let chamber = (load.chamber - 1) as usize;
         let last = lasts[chamber];
         let mut earlier = last;
@@ -205,10 +139,10 @@ fn judge_plan(plan: &[u8], book: Book, readies: &[u32], dues: &[u32]) -> Judgeme
         at = end;
     }
     if plan.len() <= at {
-        let loads = line - 1;
-        return Judgement::Right(loads);
+        return Ok(line - 1);
     }
-    plan_fault(15, line, at, line_end(plan, at))
+    let number = Refusal::Overlapping.number();
+    Err(fault_at(number, true, line, at, line_end(plan, at)))
 }
 
 // The list that has begun so, and the plan.
@@ -218,42 +152,23 @@ fn judge_with(list: &[u8], plan: &[u8], begun: Progress) -> Judgement
 {
     let mut readies = [0u32; ORDERS];
     let mut dues = [0u32; ORDERS];
-    let read = read_orders(list, begun, &mut readies, &mut dues);
-    let fault = read.fault;
-    let count = read.count;
-    if fault.number != 0 {
-        return Judgement::Wrong(fault);
-    }
+    let count = read_orders(list, begun, &mut readies, &mut dues)?;
     judge_plan(plan, begun.book, &readies[..count], &dues[..count])
 }
 
-// A fault of the list.
-fn list_fault(number: u32, line: u32, to: usize) -> Judgement
-    ensures { as_judged result ≡ wrong (record { number = number; plan = false; line = line; from = 0; to = to }) }
-{
-    let fault = Fault {
-        number,
-        plan: false,
-        line,
-        from: 0,
-        to,
-    };
-    Judgement::Wrong(fault)
-}
-
 // Judges a plan for a list: right with the number of its lines, or the first fault.
+#[tactic(auto, unfolding(crate::specs::Judging::judged))]
 pub fn judge(list: &[u8], plan: &[u8]) -> Judgement
     ensures { as_judged result ≡ judged list.now plan.now }
 {
-    if LONGEST_TEXT < list.len() {
-        return list_fault(9, 0, 0);
-    }
-    if LONGEST_TEXT < plan.len() {
-        return plan_fault(9, 0, 0, 0);
-    }
+    fitting(list, false)?;
+    fitting(plan, true)?;
     match begin(list) {
-        Ok(progress) => judge_with(list, plan, progress),
-        Err(refused) => list_fault(refused.refusal.number(), 1, line_end(list, 0)),
+        Ok(begun) => judge_with(list, plan, begun),
+        Err(refused) => {
+            let number = refused.refusal.number();
+            Err(fault_at(number, false, 1, 0, line_end(list, 0)))
+        }
     }
 }
 

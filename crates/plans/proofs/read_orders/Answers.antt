@@ -1,29 +1,22 @@
 -- `read_orders` notes line after line: what the lines left come to, with what stands in the buffers, is what the whole comes to.
 use Prim.Native.Nat.{◌<◌}
-use mathlib.Core.Path.{sym, ◌∙◌}
+use mathlib.Core.Path.{sym, ap, ◌∙◌}
 use native.Mathlib.Omega.{arith}
+use Rattle.ground.specs.Refusal.{wrong}
 use Rattle.ground.specs.Limits.{most_orders}
 use Rattle.plans.proofs.Orders.{further, gone_end, gone_fault, gone_room, gone_next}
 use Rattle.plans.proofs.read_orders.Goals as goal
-use Rattle.plans.proofs.read_orders.Goals.{After-order-1}
+use Rattle.plans.proofs.read_orders.Goals.{In_default}
 
 -- an order that is not refused has room in the buffers
-room_at : (c : goal.After-order-1) → c.loop-progress.count < most_orders
+room_at : (c : goal.In_default) → c.loop-progress.count < most_orders
 room_at c =
-    gone_room c.loop-progress.invariant c.next-step.result c.next-step.ensures c.loop-progress-test.true
-    (sym c.refusal_in-refusal.ensures ∙ c.if-refusal-ne0.false)
+    gone_room c.loop-progress.invariant c.next-step.result c.next-step.ensures c.loop-progress-test.true c.in_default.not-Refused
 
-pub returns-then-refusal-ne0 : goal.returns-then-refusal-ne0
-returns-then-refusal-ne0 c =
-    let l = c.loop-progress in
-    record {
-      faulty =
-          λ some.
-          rw c.refusal_in-refusal.ensures
-          (gone_fault l.invariant c.next-step.result c.next-step.ensures c.loop-progress-test.true (λ none. some (c.refusal_in-refusal.ensures ∙ none)));
-      faultless = λ none. absurd (c.if-refusal-ne0.true none);
-      few = l.invariant.few;
-    }
+pub returns-in-Refused : goal.returns-in-Refused
+returns-in-Refused c =
+    gone_fault c.loop-progress.invariant c.next-step.result c.next-step.ensures c.loop-progress-test.true c.in-Refused.number c.in-Refused.is
+    ∙ ap wrong (sym c.fault_at.ensures)
 
 pub bounds-readies-count : goal.bounds-readies-count
 bounds-readies-count c = omega (arith, room_at c, c.loop-progress.invariant.sized.0)
@@ -41,14 +34,14 @@ loop-progress-smaller c =
 
 pub loop-progress-preserved : goal.loop-progress-preserved
 loop-progress-preserved c =
-    gone_next c.loop-progress.invariant c.next-step.result c.next-step.ensures c.loop-progress-test.true (sym c.refusal_in-refusal.ensures ∙ c.if-refusal-ne0.false)
+    gone_next c.loop-progress.invariant c.next-step.result c.next-step.ensures c.loop-progress-test.true c.in_default.not-Refused
     c.requires.list_len_bound
 
 pub returns : goal.returns
 returns c =
-    let l = c.loop-progress in
-    record {
-      faulty = λ some. absurd (some c.faultless-fault.ensures);
-      faultless = λ none. (record { book = l.progress.book; orders = l.invariant.orders }, gone_end l.invariant (omega (arith, c.loop-progress-test.false)), l.invariant.hours);
-      few = l.invariant.few;
-    }
+    let l = c.loop-progress in (
+      record { book = l.progress.book; orders = l.invariant.orders },
+      gone_end l.invariant (omega (arith, c.loop-progress-test.false)),
+      l.invariant.hours,
+      l.invariant.few,
+    )
