@@ -3,8 +3,7 @@
 ghost use Rattle.std.specs.Prelude.{◌≡◌, ◌<◌, false};
 ghost use Rattle.replies.specs.Steps.{left_of};
 
-use crate::case_text::TextRead;
-use crate::{case_text, results};
+use crate::results;
 use judgements::write_checked;
 use plans::Judgement;
 use replies::Reply;
@@ -32,17 +31,8 @@ fn reply_with_some(list: &[u8], reply: Reply) -> Reply
     next
 }
 
-// The judgement of a plan for the list that a word has to be.
-pub(crate) fn checker(word: &[u8], plan: &[u8]) {
-    let mut space = case_text::space();
-    match case_text::read(word, &mut space) {
-        TextRead::Length(length) => judge(texts::part(&space, 0, length), plan),
-        TextRead::NoText => results::word(b"unread"),
-    }
-}
-
 // What the checker prints, and the part shown. The list and the plan have one lifetime, as the line at fault is a part of either.
-fn judge<'a>(list: &'a [u8], plan: &'a [u8]) {
+pub(crate) fn checker<'a>(list: &'a [u8], plan: &'a [u8]) {
     let mut buffer = [0u8; LINE_ROOM];
     let written = write_checked(list, plan, &mut buffer);
     results::words_of(text_in(written, &buffer));
