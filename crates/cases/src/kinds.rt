@@ -97,7 +97,7 @@ fn with_number_and_text<F: FnOnce(&[u8], u32)>(words: &[u8], answer: F) -> Optio
 }
 
 // A case whose words are two texts.
-fn with_texts<F: for<'a> FnOnce(&'a [u8], &'a [u8])>(words: &[u8], answer: F) -> Option<()>
+fn with_texts<F: FnOnce(&[u8], &[u8])>(words: &[u8], answer: F) -> Option<()>
     requires { F.IsAlwaysCallable answer }
 {
     let (word, other) = words::parted(words)?;

@@ -25,14 +25,12 @@ fn reply_with_some(list: &[u8], reply: Reply) -> Reply
 {
     let mut buffer = io::buffer();
     let filled = replies::fill(list, reply, &mut buffer);
-    let length = filled.length;
-    let next = filled.reply;
-    results::part_of_text(&buffer[..length]);
-    next
+    results::part_of_text(&buffer[..filled.length]);
+    filled.reply
 }
 
-// What the checker prints, and the part shown. The list and the plan have one lifetime, as the line at fault is a part of either.
-pub(crate) fn checker<'a>(list: &'a [u8], plan: &'a [u8]) {
+// What the checker prints, and the part shown.
+pub(crate) fn checker(list: &[u8], plan: &[u8]) {
     let mut buffer = [0u8; LINE_ROOM];
     let written = write_checked(list, plan, &mut buffer);
     results::words_of(text_in(written, &buffer));

@@ -91,6 +91,7 @@ impl<'a> Iterator for WalkedLines<'a> {
 
     ghost remaining = { λ walk. at_most (length walk.text.now - walk.at) };
 
+    #[tactic(auto, using(texts::proofs::WholeText::walk_further))]
     fn next(&mut self) -> Option<&'a [u8]> {
         let line = texts::walked_line(self.text, self.at);
         if line.is_empty() {

@@ -18,20 +18,14 @@ const ROOM: usize = LONGEST_TEXT + 1;
 
 fn main(rt: HostRuntime) {
     let mut list = [0u8; ROOM];
-    let list_length = match read_named(&rt, 1, &mut list) {
-        Some(length) => length,
-        None => {
-            print(b"unread\torders\n");
-            return;
-        }
+    let Some(list_length) = read_named(&rt, 1, &mut list) else {
+        print(b"unread\torders\n");
+        return;
     };
     let mut plan = [0u8; ROOM];
-    let plan_length = match read_named(&rt, 2, &mut plan) {
-        Some(length) => length,
-        None => {
-            print(b"unread\tplan\n");
-            return;
-        }
+    let Some(plan_length) = read_named(&rt, 2, &mut plan) else {
+        print(b"unread\tplan\n");
+        return;
     };
     print_judgement(&list[..list_length], &plan[..plan_length]);
 }
@@ -42,11 +36,7 @@ fn read_named<R: Env + Files>(rt: &R, place: usize, text: &mut [u8]) -> Option<u
 {
     let mut file = open_named(rt, place)?;
     let length = read_full(&mut file, text);
-    if was_read(&mut file) {
-        Some(length)
-    } else {
-        None
-    }
+    was_read(&mut file).then_some(length)
 }
 
 // The file that an argument names, open for reading; none where it is not given or cannot be opened.
@@ -76,10 +66,7 @@ fn read_full<F: Read>(file: &mut F, text: &mut [u8]) -> usize
 fn read_some<F: Read>(file: &mut F, text: &mut [u8]) -> usize
     ensures { result ≤ length text.new }
 {
-    match file.read(text) {
-        Ok(more) => more,
-        Err(_) => 0,
-    }
+    file.read(text).unwrap_or(0)
 }
 
 // Whether a file could be read as far as it was: another read of it does not fail.
