@@ -16,13 +16,6 @@ struct Piece<'a> {
     rest: &'a [u8],
 }
 
-// Room for a text. The contract gives what lending it needs.
-pub(crate) fn space() -> [u8; TEXT_ROOM]
-    ensures { 65600 ≡ length result }
-{
-    [0; TEXT_ROOM]
-}
-
 // A byte that stands for itself.
 pub(crate) fn is_plain(byte: u8) -> bool {
     byte.is_ascii_graphic() && byte != b'\\'
@@ -34,10 +27,10 @@ pub(crate) fn read<'a>(word: &[u8], buffer: &'a mut [u8]) -> Option<&'a [u8]> {
         return None;
     }
     let mut rest = word;
-    let mut length = 0;
+    let mut length: usize = 0;
     while !rest.is_empty() {
         let piece = piece_of(rest, buffer.get(..length)?)?;
-        let end = usize::checked_add(length, piece.times)?;
+        let end = length.checked_add(piece.times)?;
         buffer.get_mut(length..end)?.fill(piece.byte);
         length = end;
         rest = piece.rest;
@@ -49,30 +42,26 @@ pub(crate) fn read<'a>(word: &[u8], buffer: &'a mut [u8]) -> Option<&'a [u8]> {
 fn piece_of<'a>(rest: &'a [u8], text: &[u8]) -> Option<Piece<'a>>
     ensures { IfSome result (λ piece. length piece.rest.now < length rest.now) }
 {
-    match rest {
-        [b'\\', b't', rest @ ..] => once(b'\t', rest),
-        [b'\\', b'n', rest @ ..] => once(b'\n', rest),
-        [b'\\', b's', rest @ ..] => once(b' ', rest),
-        [b'\\', b'\\', rest @ ..] => once(b'\\', rest),
-        [b'\\', b'e', rest @ ..] => Some(Piece {
-            byte: b'e',
-            times: 0,
-            rest,
-        }),
+    let (byte, rest) = match rest {
+        [b'\\', b't', rest @ ..] => (b'\t', rest),
+        [b'\\', b'n', rest @ ..] => (b'\n', rest),
+        [b'\\', b's', rest @ ..] => (b' ', rest),
+        [b'\\', b'\\', rest @ ..] => (b'\\', rest),
         [b'\\', b'x', sixteens, ones, rest @ ..] => {
             let byte = hexadecimal_digit(*sixteens)? * 16 + hexadecimal_digit(*ones)?;
-            once(byte, rest)
+            (byte, rest)
         }
-        [b'\\', b'{', rest @ ..] => repeat_of(rest, *text.last()?),
-        [byte, rest @ ..] if is_plain(*byte) => once(*byte, rest),
-        _ => None,
-    }
-}
-
-// A byte that stands there once.
-fn once<'a>(byte: u8, rest: &'a [u8]) -> Option<Piece<'a>>
-    ensures { IfSome result (λ piece. length piece.rest.now ≡ length rest.now) }
-{
+        [b'\\', b'e', rest @ ..] => {
+            return Some(Piece {
+                byte: 0,
+                times: 0,
+                rest,
+            });
+        }
+        [b'\\', b'{', rest @ ..] => return repeat_of(rest, *text.last()?),
+        [byte, rest @ ..] if is_plain(*byte) => (*byte, rest),
+        _ => return None,
+    };
     Some(Piece {
         byte,
         times: 1,

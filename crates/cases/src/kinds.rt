@@ -1,5 +1,6 @@
 // The kinds of cases: their names, the words that each has, and who answers it.
 // Any line may come; one that is of no kind, or has not its kind's words, is answered `unread`. Assumes nothing.
+use crate::case_text::TEXT_ROOM;
 use crate::{book_cases, case_text, program_cases, reading_cases, results, words, writing_cases};
 
 #[derive(Clone, Copy)]
@@ -82,7 +83,7 @@ fn answer_read(line: &[u8]) -> Option<()> {
 fn with_text<F: FnOnce(&[u8])>(word: &[u8], answer: F) -> Option<()>
     requires { F.IsAlwaysCallable answer }
 {
-    let mut space = case_text::space();
+    let mut space = [0; TEXT_ROOM];
     answer(case_text::read(word, &mut space)?);
     Some(())
 }
@@ -101,8 +102,8 @@ fn with_texts<F: FnOnce(&[u8], &[u8])>(words: &[u8], answer: F) -> Option<()>
     requires { F.IsAlwaysCallable answer }
 {
     let (word, other) = words::parted(words)?;
-    let mut space = case_text::space();
-    let mut other_space = case_text::space();
+    let mut space = [0; TEXT_ROOM];
+    let mut other_space = [0; TEXT_ROOM];
     answer(
         case_text::read(word, &mut space)?,
         case_text::read(other, &mut other_space)?,

@@ -18,7 +18,8 @@ pub(crate) fn desk(list: &[u8]) {
     }
 }
 
-// As many lines of a reply as a buffer has room for; how far it has come then.
+// As many lines of a reply as a buffer has room for; how far it has come then. The desk writes bytes as they are, and stops where
+// they are lost: one function for both would be no plainer.
 fn reply_with_some(list: &[u8], reply: Reply) -> Reply
     requires { reply.over ≡ false }
     ensures { left_of list.now result < left_of list.now reply }

@@ -1,5 +1,6 @@
 // Results as they are written: words, numbers and texts, each behind a space.
 // A byte of a text that cannot be seen is written as an escape, as a case has it. Any bytes may come. Assumes nothing.
+// They are written by the kit's `io`: `print!` is no plainer, as each function on the way would take the runtime for it.
 use crate::case_text;
 
 pub(crate) fn word(word: &[u8]) {

@@ -11,6 +11,8 @@ use replies::Reply;
 // Room for a list, and for one byte more, which tells that a text is too long.
 const ROOM: usize = LONGEST_TEXT + 1;
 
+// The list is read in by the kit's `read_full`, for which a read that fails is the end: std's `read_exact` and `read_to_end` say little
+// after one, and the second takes memory.
 fn main() {
     let mut list = [0u8; ROOM];
     let length = io::read_full(0, &mut list);

@@ -1,4 +1,4 @@
--- `read` ends: fewer bytes of the word are left past each piece. Its buffer stays as long as it was.
+-- `read` ends: fewer bytes of the word are left past each piece.
 use Rattle.std.proofs.Common.{length}
 use Rattle.cases.proofs.case_text.read.Given as goal
 
