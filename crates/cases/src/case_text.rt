@@ -51,6 +51,7 @@ fn piece_of<'a>(rest: &'a [u8], text: &[u8]) -> Option<Piece<'a>>
             let byte = hexadecimal_digit(*sixteens)? * 16 + hexadecimal_digit(*ones)?;
             (byte, rest)
         }
+        // An escape that stands for no byte.
         [b'\\', b'e', rest @ ..] => {
             return Some(Piece {
                 byte: 0,

@@ -3,6 +3,7 @@
 use crate::case_text::TEXT_ROOM;
 use crate::{book_cases, case_text, program_cases, reading_cases, results, words, writing_cases};
 
+// What a case's first word names.
 #[derive(Clone, Copy)]
 enum Kind {
     Hour,
@@ -21,7 +22,7 @@ enum Kind {
     Take,
 }
 
-// The name is of no kind.
+// A word that names no kind.
 #[derive(Clone, Copy)]
 struct NoKind;
 

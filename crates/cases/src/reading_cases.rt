@@ -70,7 +70,7 @@ pub(crate) fn line(text: &[u8], at: u32) {
     results::number(texts::walked_place(text, at) as u64);
 }
 
-// A walk through a text, and its place.
+// The lines that a walk through a text hands out, and its place.
 #[derive(Drop)]
 struct WalkedLines<'a> {
     text: &'a [u8],
