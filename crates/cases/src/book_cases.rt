@@ -1,37 +1,43 @@
 // The cases of the book: a book opened, and an order given to a book of any kind.
 // Any numbers may come. Assumes nothing.
 use crate::results;
-use crate::words::MOST_NUMBERS;
 use book::{Answer, Book};
 
-pub(crate) fn open(chambers: u32, run: u32) {
+pub(crate) fn open([chambers, run]: [u32; 2]) {
     let opened = Book::open(chambers, run);
     results::numbers(&[opened.refusal.map_or(0, |refusal| refusal.number())]);
     held(opened.book);
 }
 
 // The numbers are those of a book, with the free hours of eight chambers, and then an order's hours.
-pub(crate) fn take(numbers: [u32; MOST_NUMBERS]) {
+pub(crate) fn take(numbers: [u32; 15]) {
+    let [
+        chambers,
+        run,
+        clock,
+        taken,
+        kept,
+        first,
+        second,
+        third,
+        fourth,
+        fifth,
+        sixth,
+        seventh,
+        eighth,
+        ready,
+        due,
+    ] = numbers;
     let book = Book {
-        chambers: numbers[0],
-        run: numbers[1],
-        clock: numbers[2],
-        taken: numbers[3],
-        kept: numbers[4],
-        free: [
-            numbers[5],
-            numbers[6],
-            numbers[7],
-            numbers[8],
-            numbers[9],
-            numbers[10],
-            numbers[11],
-            numbers[12],
-        ],
+        chambers,
+        run,
+        clock,
+        taken,
+        kept,
+        free: [first, second, third, fourth, fifth, sixth, seventh, eighth],
     };
-    let taken = book.take(numbers[13], numbers[14]);
-    let answer = taken.answer;
-    answered(answer);
+    let taken = book.take(ready, due);
+    answered(taken.answer);
     held(taken.book);
 }
 
@@ -45,7 +51,6 @@ fn answered(answer: Answer) {
 
 // What a book holds.
 fn held(book: Book) {
-    let free = book.free;
     results::numbers(&[book.chambers, book.run, book.clock, book.taken, book.kept]);
-    results::numbers(&free);
+    results::numbers(&book.free);
 }

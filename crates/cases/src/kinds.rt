@@ -1,116 +1,113 @@
 // The kinds of cases: their names, the words that each has, and who answers it.
 // Any line may come; one that is of no kind, or has not its kind's words, is answered `unread`. Assumes nothing.
-use crate::case_text::TextRead;
-use crate::words::MOST_NUMBERS;
+use crate::case_text::TEXT_ROOM;
 use crate::{book_cases, case_text, program_cases, reading_cases, results, words, writing_cases};
-use fields::same_bytes;
 
-// The first words of the kinds. A kind is numbered by its place here.
-const NAMES: [u8; 91] =
-    *b"hour number lines heading order desk walk load line checker write-hour write-load open take";
+// What a case's first word names.
+#[derive(Clone, Copy)]
+enum Kind {
+    Hour,
+    Number,
+    Lines,
+    Heading,
+    Order,
+    Desk,
+    Walk,
+    Load,
+    Line,
+    Checker,
+    WriteHour,
+    WriteLoad,
+    Open,
+    Take,
+}
 
-// The words behind the first, for each kind: n is a number, t a text. A kind has its numbers before its texts.
-const SHAPES: [u8; 49] = *b"t t t t t t t nt nt tt nn nnnn nn nnnnnnnnnnnnnnn";
+// A word that names no kind.
+#[derive(Clone, Copy)]
+struct NoKind;
 
-const HOUR: usize = 0;
+impl TryFrom<&[u8]> for Kind {
+    type Error = NoKind;
 
-const NUMBER: usize = 1;
-
-const LINES: usize = 2;
-
-const HEADING: usize = 3;
-
-const ORDER: usize = 4;
-
-const DESK: usize = 5;
-
-const WALK: usize = 6;
-
-const LOAD: usize = 7;
-
-const LINE: usize = 8;
-
-const WRITE_HOUR: usize = 10;
-
-const WRITE_LOAD: usize = 11;
-
-const OPEN: usize = 12;
-
-// How many kinds there are.
-const KINDS: usize = 14;
-
-// The kind of this name among some; their number where there is none.
-fn kind_of(name: &[u8], names: &[u8]) -> usize {
-    let mut kind: usize = 0;
-    while kind < KINDS {
-        if same_bytes(words::word_at(names, kind), name) {
-            return kind;
+    fn try_from(name: &[u8]) -> Result<Kind, NoKind> {
+        match name {
+            b"hour" => Ok(Kind::Hour),
+            b"number" => Ok(Kind::Number),
+            b"lines" => Ok(Kind::Lines),
+            b"heading" => Ok(Kind::Heading),
+            b"order" => Ok(Kind::Order),
+            b"desk" => Ok(Kind::Desk),
+            b"walk" => Ok(Kind::Walk),
+            b"load" => Ok(Kind::Load),
+            b"line" => Ok(Kind::Line),
+            b"checker" => Ok(Kind::Checker),
+            b"write-hour" => Ok(Kind::WriteHour),
+            b"write-load" => Ok(Kind::WriteLoad),
+            b"open" => Ok(Kind::Open),
+            b"take" => Ok(Kind::Take),
+            _ => Err(NoKind),
         }
-        kind += 1;
     }
-    kind
 }
 
 // The results of a case, each behind a space.
 pub(crate) fn answer(line: &[u8]) {
     io::write_all(1, b" =");
-    let kind = kind_of(words::word_at(line, 0), &NAMES);
-    answer_shaped(kind, words::word_at(&SHAPES, kind), line);
-}
-
-// The same, of a case of this kind, which has words of this shape.
-fn answer_shaped(kind: usize, shape: &[u8], line: &[u8]) {
-    let count = words::place_of(b't', shape, 0);
-    let last = shape.len();
-    let numbers = words::numbers_in(line, count);
-    let values = numbers.values;
-    if (last == 0) | (last != words::spaces(line)) | !numbers.are_read {
+    if answer_read(line).is_none() {
         results::word(b"unread");
-        return;
-    }
-    if count < last {
-        answer_with_text(kind, line, words::word_at(line, last), values[0]);
-        return;
-    }
-    answer_numbers(kind, values);
-}
-
-fn answer_numbers(kind: usize, values: [u32; MOST_NUMBERS]) {
-    match kind {
-        WRITE_HOUR => writing_cases::write_hour(values[0], values[1] as usize),
-        WRITE_LOAD => writing_cases::write_load(
-            values[0],
-            values[1],
-            values[2],
-            values[3] as usize,
-        ),
-        OPEN => book_cases::open(values[0], values[1]),
-        _ => book_cases::take(values),
     }
 }
 
-// A case whose last word has to be a text, and whose first number is this one, if it has any.
-fn answer_with_text(kind: usize, line: &[u8], word: &[u8], number: u32) {
-    let mut space = case_text::space();
-    match case_text::read(word, &mut space) {
-        TextRead::Length(length) => {
-            answer_text(kind, line, texts::part(&space, 0, length), number);
-        }
-        TextRead::NoText => results::word(b"unread"),
+// The same, of a case that can be read; none, and nothing written, of one that cannot.
+fn answer_read(line: &[u8]) -> Option<()> {
+    let (name, words) = words::parted(line)?;
+    match Kind::try_from(name).ok()? {
+        Kind::Hour => with_text(words, reading_cases::hour)?,
+        Kind::Number => with_text(words, reading_cases::number)?,
+        Kind::Lines => with_text(words, reading_cases::lines)?,
+        Kind::Heading => with_text(words, reading_cases::heading)?,
+        Kind::Order => with_text(words, reading_cases::order)?,
+        Kind::Desk => with_text(words, program_cases::desk)?,
+        Kind::Walk => with_text(words, reading_cases::walk)?,
+        Kind::Load => with_number_and_text(words, reading_cases::load)?,
+        Kind::Line => with_number_and_text(words, reading_cases::line)?,
+        Kind::Checker => with_texts(words, program_cases::checker)?,
+        Kind::WriteHour => writing_cases::write_hour(words::numbers_of(words)?),
+        Kind::WriteLoad => writing_cases::write_load(words::numbers_of(words)?),
+        Kind::Open => book_cases::open(words::numbers_of(words)?),
+        Kind::Take => book_cases::take(words::numbers_of(words)?),
     }
+    Some(())
 }
 
-fn answer_text(kind: usize, line: &[u8], text: &[u8], number: u32) {
-    match kind {
-        HOUR => reading_cases::hour(text),
-        NUMBER => reading_cases::number(text),
-        LINES => reading_cases::lines(text),
-        HEADING => reading_cases::heading(text),
-        ORDER => reading_cases::order(text),
-        DESK => program_cases::desk(text),
-        WALK => reading_cases::walk(text),
-        LOAD => reading_cases::load(text, number),
-        LINE => reading_cases::line(text, number as usize),
-        _ => program_cases::checker(words::word_at(line, 1), text),
-    }
+// A case whose one word is a text. A text has no space, and so no second word.
+fn with_text<F: FnOnce(&[u8])>(word: &[u8], answer: F) -> Option<()>
+    requires { F.IsAlwaysCallable answer }
+{
+    let mut space = [0; TEXT_ROOM];
+    answer(case_text::read(word, &mut space)?);
+    Some(())
+}
+
+// A case whose words are a number and a text.
+fn with_number_and_text<F: FnOnce(&[u8], u32)>(words: &[u8], answer: F) -> Option<()>
+    requires { F.IsAlwaysCallable answer }
+{
+    let (number, word) = words::parted(words)?;
+    let number = words::number_of(number)?;
+    with_text(word, |text| answer(text, number))
+}
+
+// A case whose words are two texts.
+fn with_texts<F: FnOnce(&[u8], &[u8])>(words: &[u8], answer: F) -> Option<()>
+    requires { F.IsAlwaysCallable answer }
+{
+    let (word, other) = words::parted(words)?;
+    let mut space = [0; TEXT_ROOM];
+    let mut other_space = [0; TEXT_ROOM];
+    answer(
+        case_text::read(word, &mut space)?,
+        case_text::read(other, &mut other_space)?,
+    );
+    Some(())
 }

@@ -23,18 +23,16 @@ fn main() {
 }
 
 fn answer_lines(file: &[u8]) {
-    let mut at: usize = 0;
-    while at < file.len() {
-        answer_line(texts::line_at(file, at));
-        at = texts::line_end(file, at);
+    for line in file.split_inclusive(|byte| *byte == b'\n') {
+        answer_line(line.strip_suffix(b"\n").unwrap_or(line));
     }
 }
 
 fn answer_line(line: &[u8]) {
-    let case = texts::part(line, 0, words::place_of(b'\n', line, 0));
-    io::write_all(1, case);
-    if words::place_of(b'#', case, 0) != 0 {
-        kinds::answer(case);
+    io::write_all(1, line);
+    match line {
+        [] | [b'#', ..] => (),
+        _ => kinds::answer(line),
     }
     io::write_all(1, b"\n");
 }

@@ -3,8 +3,7 @@
 ghost use Rattle.std.specs.Prelude.{◌≡◌, ◌<◌, false};
 ghost use Rattle.replies.specs.Steps.{left_of};
 
-use crate::case_text::TextRead;
-use crate::{case_text, results};
+use crate::results;
 use judgements::write_checked;
 use replies::Reply;
 use writer::{LINE_ROOM, text_in};
@@ -18,30 +17,20 @@ pub(crate) fn desk(list: &[u8]) {
     }
 }
 
-// As many lines of a reply as a buffer has room for; how far it has come then.
+// As many lines of a reply as a buffer has room for; how far it has come then. The desk writes bytes as they are, and stops where
+// they are lost: one function for both would be no plainer.
 fn reply_with_some(list: &[u8], reply: Reply) -> Reply
     requires { reply.over ≡ false }
     ensures { left_of list.now result < left_of list.now reply }
 {
     let mut buffer = io::buffer();
     let filled = replies::fill(list, reply, &mut buffer);
-    let length = filled.length;
-    let next = filled.reply;
-    results::part_of_text(&buffer[..length]);
-    next
+    results::part_of_text(&buffer[..filled.length]);
+    filled.reply
 }
 
-// The judgement of a plan for the list that a word has to be.
-pub(crate) fn checker(word: &[u8], plan: &[u8]) {
-    let mut space = case_text::space();
-    match case_text::read(word, &mut space) {
-        TextRead::Length(length) => judge(texts::part(&space, 0, length), plan),
-        TextRead::NoText => results::word(b"unread"),
-    }
-}
-
-// What the checker prints, and the part shown. The list and the plan have one lifetime, as the line at fault is a part of either.
-fn judge<'a>(list: &'a [u8], plan: &'a [u8]) {
+// What the checker prints, and the part shown.
+pub(crate) fn checker(list: &[u8], plan: &[u8]) {
     let mut buffer = [0u8; LINE_ROOM];
     let written = write_checked(list, plan, &mut buffer);
     results::words_of(text_in(written, &buffer));

@@ -1,5 +1,8 @@
 // The cases of reading: a text as an hour, a plain number, a heading, an order or a load, and a text walked through line by line.
 // Any text may come. Assumes nothing.
+ghost use Rattle.std.specs.Prelude.{◌-◌, length};
+ghost use Rattle.std.specs.Iterator.{at_most};
+
 use crate::results;
 
 pub(crate) fn hour(field: &[u8]) {
@@ -45,48 +48,54 @@ pub(crate) fn load(line: &[u8], count: u32) {
 
 // The number of lines, and each line, as a walk from the top hands them out.
 pub(crate) fn lines(text: &[u8]) {
-    let walked = walked_from_top(text);
-    results::number(walked.count);
-    let mut at = texts::walk_start(text);
-    loop {
-        let line = texts::walked_line(text, at);
-        if line.len() == 0 {
-            return;
-        }
+    results::number(WalkedLines::from_top(text).count() as u64);
+    for line in WalkedLines::from_top(text) {
         results::text(line);
-        at = texts::walked_place(text, at);
     }
 }
 
 // The number of lines alone, and the place of the walk when none is left.
 pub(crate) fn walk(text: &[u8]) {
-    let walked = walked_from_top(text);
-    results::number(walked.count);
-    results::number(walked.at as u64);
+    let mut walk = WalkedLines::from_top(text);
+    results::number(walk.by_ref().count() as u64);
+    results::number(walk.at as u64);
 }
 
 // The line that a walk with this place hands out, and its place then.
-pub(crate) fn line(text: &[u8], at: usize) {
+pub(crate) fn line(text: &[u8], at: u32) {
+    let at = at as usize;
     results::text(texts::walked_line(text, at));
     results::number(texts::walked_place(text, at) as u64);
 }
 
-// How many lines a walk has handed out, and its place.
-#[derive(Clone, Copy)]
-struct Walked {
-    count: u64,
+// The lines that a walk through a text hands out, and its place.
+#[derive(Drop)]
+struct WalkedLines<'a> {
+    text: &'a [u8],
     at: usize,
 }
 
-fn walked_from_top(text: &[u8]) -> Walked {
-    let mut count: u64 = 0;
-    let mut at = texts::walk_start(text);
-    loop {
-        let line = texts::walked_line(text, at);
-        if line.len() == 0 {
-            return Walked { count, at };
+impl<'a> WalkedLines<'a> {
+    fn from_top(text: &'a [u8]) -> Self {
+        WalkedLines {
+            text,
+            at: texts::walk_start(text),
         }
-        at = texts::walked_place(text, at);
-        count += 1;
+    }
+}
+
+impl<'a> Iterator for WalkedLines<'a> {
+    type Item = &'a [u8];
+
+    ghost remaining = { λ walk. at_most (length walk.text.now - walk.at) };
+
+    #[tactic(auto, using(texts::proofs::WholeText::walk_further))]
+    fn next(&mut self) -> Option<&'a [u8]> {
+        let line = texts::walked_line(self.text, self.at);
+        if line.is_empty() {
+            return None;
+        }
+        self.at = texts::walked_place(self.text, self.at);
+        Some(line)
     }
 }

@@ -1,5 +1,6 @@
 // Results as they are written: words, numbers and texts, each behind a space.
 // A byte of a text that cannot be seen is written as an escape, as a case has it. Any bytes may come. Assumes nothing.
+// They are written by the kit's `io`: `print!` is no plainer, as each function on the way would take the runtime for it.
 use crate::case_text;
 
 pub(crate) fn word(word: &[u8]) {
@@ -13,10 +14,8 @@ pub(crate) fn number(number: u64) {
 }
 
 pub(crate) fn numbers(values: &[u32]) {
-    let mut at: usize = 0;
-    while at < values.len() {
-        number(values[at] as u64);
-        at += 1;
+    for value in values {
+        number(u64::from(*value));
     }
 }
 
@@ -30,7 +29,7 @@ pub(crate) fn refused(refusal: u32) {
 }
 
 pub(crate) fn text(bytes: &[u8]) {
-    if bytes.len() == 0 {
+    if bytes.is_empty() {
         word(b"\\e");
         return;
     }
@@ -40,30 +39,28 @@ pub(crate) fn text(bytes: &[u8]) {
 
 // Some bytes of a text, with nothing before them.
 pub(crate) fn part_of_text(bytes: &[u8]) {
-    let mut at: usize = 0;
-    while at < bytes.len() {
-        byte(bytes[at]);
-        at += 1;
+    for seen in bytes {
+        byte(*seen);
     }
 }
 
 // The fields of a line as words: a space stands for each tab, and nothing for its end.
 pub(crate) fn words_of(line: &[u8]) {
     word(b"");
-    let mut at: usize = 0;
-    while at < line.len() {
-        spaced(line[at]);
-        at += 1;
+    for seen in line {
+        spaced(*seen);
     }
 }
 
 fn spaced(seen: u8) {
-    if seen == b'\t' {
-        io::write_all(1, b" ");
-        return;
-    }
-    if seen != b'\n' {
-        io::write_all(1, &[seen]);
+    match seen {
+        b'\t' => {
+            io::write_all(1, b" ");
+        }
+        b'\n' => (),
+        _ => {
+            io::write_all(1, &[seen]);
+        }
     }
 }
 
@@ -72,22 +69,24 @@ fn byte(seen: u8) {
         io::write_all(1, &[seen]);
         return;
     }
-    let letter = letter_of(seen);
-    if letter != 0 {
-        io::write_all(1, &[b'\\', letter]);
-        return;
+    match letter_of(seen) {
+        Some(letter) => {
+            io::write_all(1, &[b'\\', letter]);
+        }
+        None => {
+            io::write_all(1, b"\\x");
+            io::print_hex(1, u64::from(seen), 2);
+        }
     }
-    io::write_all(1, b"\\x");
-    io::print_hex(1, seen as u64, 2);
 }
 
-// The letter of an escape that is a letter alone; 0 for a byte that has no such escape.
-fn letter_of(seen: u8) -> u8 {
+// The letter of an escape that is a letter alone, if a byte has one.
+fn letter_of(seen: u8) -> Option<u8> {
     match seen {
-        b'\t' => b't',
-        b'\n' => b'n',
-        b' ' => b's',
-        b'\\' => b'\\',
-        _ => 0,
+        b'\t' => Some(b't'),
+        b'\n' => Some(b'n'),
+        b' ' => Some(b's'),
+        b'\\' => Some(b'\\'),
+        _ => None,
     }
 }

@@ -6,32 +6,28 @@ use writer::Written;
 // The most room that a case can ask for.
 const MOST_ROOM: usize = 64;
 
-pub(crate) fn write_hour(hour: u32, room: usize) {
+pub(crate) fn write_hour([hour, room]: [u32; 2]) {
+    write_to(room, |buffer| writer::write_hour(hour, buffer));
+}
+
+pub(crate) fn write_load([order, chamber, start, room]: [u32; 4]) {
+    write_to(room, |buffer| {
+        planlines::write_plan_line(order, chamber, start, buffer)
+    });
+}
+
+// Writes where there is so much room, and shows what came of it.
+fn write_to<F: FnOnce(&mut [u8]) -> Written>(room: u32, write: F)
+    requires { F.IsAlwaysCallable write }
+{
     let mut space = [b'.'; MOST_ROOM];
-    if room <= MOST_ROOM {
-        write_hour_to(hour, &mut space[..room]);
-        return;
+    match space.get_mut(..room as usize) {
+        Some(buffer) => {
+            let written = write(buffer);
+            show(written, buffer);
+        }
+        None => results::word(b"unread"),
     }
-    results::word(b"unread");
-}
-
-fn write_hour_to(hour: u32, buffer: &mut [u8]) {
-    let written = writer::write_hour(hour, buffer);
-    show(written, buffer);
-}
-
-pub(crate) fn write_load(order: u32, chamber: u32, start: u32, room: usize) {
-    let mut space = [b'.'; MOST_ROOM];
-    if room <= MOST_ROOM {
-        write_load_to(order, chamber, start, &mut space[..room]);
-        return;
-    }
-    results::word(b"unread");
-}
-
-fn write_load_to(order: u32, chamber: u32, start: u32, buffer: &mut [u8]) {
-    let written = planlines::write_plan_line(order, chamber, start, buffer);
-    show(written, buffer);
 }
 
 // What a writing answered, and the whole buffer afterwards.

@@ -17,36 +17,24 @@ use writer::{LINE_ROOM, text_in};
 const ROOM: usize = LONGEST_TEXT + 1;
 
 fn main(rt: HostRuntime) {
-    let mut list = [0u8; ROOM];
-    let list_length = match read_named(&rt, 1, &mut list) {
-        Some(length) => length,
-        None => {
-            print(b"unread\torders\n");
-            return;
-        }
+    let mut list_room = [0u8; ROOM];
+    let Some(list) = read_named(&rt, 1, &mut list_room) else {
+        print(b"unread\torders\n");
+        return;
     };
-    let mut plan = [0u8; ROOM];
-    let plan_length = match read_named(&rt, 2, &mut plan) {
-        Some(length) => length,
-        None => {
-            print(b"unread\tplan\n");
-            return;
-        }
+    let mut plan_room = [0u8; ROOM];
+    let Some(plan) = read_named(&rt, 2, &mut plan_room) else {
+        print(b"unread\tplan\n");
+        return;
     };
-    print_judgement(&list[..list_length], &plan[..plan_length]);
+    print_judgement(list, plan);
 }
 
-// Reads the file that an argument names into a text, and gives how many bytes it has; none where the file is unread.
-fn read_named<R: Env + Files>(rt: &R, place: usize, text: &mut [u8]) -> Option<usize>
-    ensures { IfSome result (λ read. read ≤ length text.new) }
-{
+// The text of the file that an argument names, read into some room; none where the file is unread.
+fn read_named<'a, R: Env + Files>(rt: &R, place: usize, room: &'a mut [u8]) -> Option<&'a [u8]> {
     let mut file = open_named(rt, place)?;
-    let length = read_full(&mut file, text);
-    if was_read(&mut file) {
-        Some(length)
-    } else {
-        None
-    }
+    let length = read_full(&mut file, room);
+    was_read(&mut file).then_some(&room[..length])
 }
 
 // The file that an argument names, open for reading; none where it is not given or cannot be opened.
@@ -57,29 +45,19 @@ fn open_named<R: Env + Files>(rt: &R, place: usize) -> Option<R::File> {
     fs::open(rt, path).ok()
 }
 
-// Reads until a text is full, the file ends or a read fails, and gives how many bytes it put at the text's front.
+// Reads until a text is full, the file ends or a read fails, and gives how many bytes it put at the text's front. The loop is written
+// out: std's `read_exact` and `read_to_end` say little after a failure, and the second takes memory.
 fn read_full<F: Read>(file: &mut F, text: &mut [u8]) -> usize
     ensures { result ≤ length text.new }
 {
     let mut length = 0;
     while length < text.len() {
-        let more = read_some(file, &mut text[length..]);
-        if more == 0 {
-            break;
+        match file.read(&mut text[length..]) {
+            Ok(0) | Err(_) => break,
+            Ok(more) => length += more,
         }
-        length += more;
     }
     length
-}
-
-// How many bytes a read put at a text's front; 0 where it failed.
-fn read_some<F: Read>(file: &mut F, text: &mut [u8]) -> usize
-    ensures { result ≤ length text.new }
-{
-    match file.read(text) {
-        Ok(more) => more,
-        Err(_) => 0,
-    }
 }
 
 // Whether a file could be read as far as it was: another read of it does not fail.
@@ -95,7 +73,7 @@ fn print_judgement(list: &[u8], plan: &[u8]) {
     print(text_in(written, &buffer));
 }
 
-// A line that cannot be written out is told on standard error.
+// A line that cannot be written out is told on standard error. The desk tells of itself, and stops then: a room for both would be no plainer.
 fn print(line: &[u8]) {
     if !io::write_all(1, line) {
         io::write_all(2, b"checker: the answer could not be written\n");

@@ -11,6 +11,8 @@ use replies::Reply;
 // Room for a list, and for one byte more, which tells that a text is too long.
 const ROOM: usize = LONGEST_TEXT + 1;
 
+// The list is read in by the kit's `read_full`, for which a read that fails is the end: std's `read_exact` and `read_to_end` say little
+// after one, and the second takes memory.
 fn main() {
     let mut list = [0u8; ROOM];
     let length = io::read_full(0, &mut list);
@@ -21,11 +23,12 @@ fn main() {
 }
 
 // Reads on to the end of the input and keeps nothing. A loop has to end and nothing says that an input does, so its turns are counted
-// down from a number that no run uses up.
+// to a number that no run uses up.
 fn pass_over_rest() {
-    let mut turns = u64::MAX;
-    while turns > 0 && pass_over_some() {
-        turns -= 1;
+    for _ in 0..u64::MAX {
+        if !pass_over_some() {
+            break;
+        }
     }
 }
 
@@ -43,19 +46,21 @@ fn print_reply(text: &[u8]) {
     }
 }
 
-// Prints as many lines of a reply as a buffer has room for; how far it has come then.
+// Prints as many lines of a reply as a buffer has room for; how far it has come then. Where they could not be written no more is tried.
+#[tactic(auto, using(replies::proofs::Filling::none_of_some))]
 fn print_some(text: &[u8], reply: Reply) -> Reply
     requires { reply.over ≡ false }
     ensures { left_of text.now result < left_of text.now reply }
 {
     let mut buffer = io::large_buffer();
     let filled = replies::fill(text, reply, &mut buffer);
-    let length = filled.length;
-    let next = filled.reply;
-    if print(&buffer[..length]) {
-        next
+    if print(&buffer[..filled.length]) {
+        filled.reply
     } else {
-        lost(reply)
+        Reply {
+            over: true,
+            ..reply
+        }
     }
 }
 
@@ -66,14 +71,4 @@ fn print(text: &[u8]) -> bool {
     }
     io::write_all(2, b"desk: the reply could not be written\n");
     false
-}
-
-// A reply that could not be written: no more of it is tried.
-fn lost(reply: Reply) -> Reply
-    ensures { result.over ≡ true }
-{
-    Reply {
-        over: true,
-        ..reply
-    }
 }

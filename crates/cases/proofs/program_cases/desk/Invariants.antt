@@ -2,8 +2,5 @@
 use Rattle.replies.specs.Steps.{left_of}
 use Rattle.cases.proofs.program_cases.desk.Given as goal
 
-abbrev pub invariant-loop-reply : goal.invariant-loop-reply
-invariant-loop-reply l = Unit {0}
-
 abbrev pub decreases-loop-reply : goal.decreases-loop-reply
 decreases-loop-reply l = left_of l.list l.reply

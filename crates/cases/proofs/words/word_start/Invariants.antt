@@ -1,9 +1,0 @@
--- `word_start` ends: a byte less is left at each turn.
-use Rattle.std.proofs.Common.{◌-◌, length}
-use Rattle.cases.proofs.words.word_start.Given as goal
-
-abbrev pub invariant-loop-at : goal.invariant-loop-at
-invariant-loop-at l = Unit {0}
-
-abbrev pub decreases-loop-at : goal.decreases-loop-at
-decreases-loop-at l = length l.line - l.at
