@@ -72,7 +72,8 @@ fn ended(stage: Stage) -> Result<u32, Refusal>
     }
 }
 
-// The hour that a field spells, in hundredths, or the refusal that it spells none. It is read from a copy of the reader's own.
+// The hour that a field spells, in hundredths, or the refusal that it spells none. As the paper has it, it is read from a copy of the
+// reader's own, in fixed memory: `read_hour` cannot run out of it.
 #[tactic(auto, using(crate::proofs::Spelling::no_hour), unfolding(crate::specs::Reading::hour_of))]
 pub fn read_hour(field: &[u8]) -> Result<u32, Refusal>
     ensures { as_read result ≡ hour_of comma field.now }
