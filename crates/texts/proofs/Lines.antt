@@ -3,10 +3,9 @@ use Prim.Native.Nat.{ℕ, ◌+◌, ◌-◌, ◌≤◌, ◌<◌, max, min}
 use mathlib.Core.Path.{◌≡◌, refl, sym, ◌∙◌}
 use mathlib.Core.Bool.{Bool, ◌&&◌}
 use mathlib.Core.List.{List, [], ◌∷◌}
-use lib.ListN.{length, get_or, take, drop, length-take, length-drop, drop_of_length-le}
+use lib.ListN.{length, take, drop, length-take, length-drop, drop_of_length-le}
 use lib.Seq.{take_all}
 use lib.Dec.{leb, ltb, eqb}
-use native.Mathlib.Numerals.{add-one}
 use native.Mathlib.Omega.{arith}
 use borrow.Author.Tests.{le-leb, lt-leb, leb-true, leb-false, ltb-true, ltb-false}
 use Rattle.std.specs.Prelude.{nat_eq, Some, None}

@@ -1,5 +1,5 @@
 -- `line_end` looks for the first line end in what stands from its place on.
-use Rattle.std.proofs.Common.{rules, tests, ◌≡◌, ◌+◌, refl, sym, ap, ◌∙◌, drop, length}
+use Rattle.std.proofs.Common.{rules, tests, ◌≡◌, refl, sym, ap, ◌∙◌, drop}
 use Rattle.std.specs.List.{position}
 use Rattle.std.proofs.lemmas.Iterator.{YieldsList-from_slice}
 use Rattle.std.proofs.lemmas.Iterator.Search.{position_from_yields_List}
