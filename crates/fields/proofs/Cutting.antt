@@ -1,22 +1,22 @@
 -- Laws of the scan that cuts a line, byte after byte, and of the part between two places of a cut. Assumes nothing.
 use Prim.Native.Nat.{ℕ, suc, ◌+◌, ◌-◌, ◌≤◌, ◌<◌}
-use mathlib.Core.Path.{◌≡◌, refl, sym, ap, ◌∙◌}
-use mathlib.Core.Bool.{Bool, true, false, cond}
+use mathlib.Core.Path.{◌≡◌, refl, ap, ◌∙◌}
+use mathlib.Core.Bool.{true, false, cond}
 use mathlib.Core.List.{List, [], ◌∷◌}
 use lib.ListN.{length, get_or, take, drop, length-drop, drop_of_length-le}
-use lib.Seq.{drop-cons, drop-drop, length-take-le}
+use lib.Seq.{drop-cons, length-take-le}
 use lib.Dec.{eqb}
 use native.Mathlib.Numerals.{add-one}
 use native.Mathlib.Omega.{arith}
-use borrow.Author.Tests.{eqb-true, eqb-false, le-leb}
+use borrow.Author.Tests.{eqb-true, eqb-false, eq-eqb, ne_eqb, le-leb}
 use Rattle.ground.proofs.Tests.{by_test}
 use Rattle.ground.specs.Range.{within}
 use Rattle.ground.proofs.Range.{within_low, within_high, outside_exactly}
 use Rattle.classes.specs.Classes.{comma, is_digit, class_of}
-use Rattle.classes.specs.declared.Class.{Class}
+use Rattle.classes.specs.declared.Class.TheVariants.{Tab, LineEnd}
 use Rattle.texts.specs.Lines.{line_end, before, part_of, part_start}
 use Rattle.fields.specs.Fields.{tab, is_none, is_ended, fields_of}
-use Rattle.fields.specs.Cutting.{no_cut, in_field, ends_line, one_field_more, cut_from, field_length, end_of, start_of, lies, field_at, field_start}
+use Rattle.fields.specs.Cutting.{no_cut, in_field, one_field_more, cut_from, end_of, start_of, lies, field_at, field_start}
 use Rattle.fields.specs.declared.Cut.{Cut}
 use Rattle.fields.proofs.Splits.{splits_ended}
 
@@ -67,54 +67,36 @@ none_left line at inside =
     let other : at + 1 ≡ length line → ⊥ = eqb-false _ _ more in
     rw (more, drop-cons line (at + 1) 0 (omega arith)))
 
--- The bytes of a field, one by one: one that stands in it makes it longer, and one that does not ends it.
-pub field_step :
-    (line : List ℕ) (at : ℕ) → at < length line → {class : Class} → class ≡ class_of comma (get_or line at 0) → {stands : Bool} → stands ≡ in_field class
-    → field_length (drop at line) ≡ cond stands (suc (field_length (drop (at + 1) line))) 0
-unfolding field_length
-field_step line at inside classed tested = rw (tested, classed, drop-cons line at 0 inside, add-one at)
+-- The scan, byte after byte: one that stands in a field goes on, and a tab goes on with one field more; a line end ends the line, and what
+-- something follows has no field.
+module _ (line : List ℕ) (found : Cut) (at : ℕ) (inside : at < length line) where
+  pub cut_inside : in_field (class_of comma (get_or line at 0)) ≡ true → cut_from found at (drop at line) ≡ cut_from found (at + 1) (drop (at + 1) line)
+  unfolding cut_from
+  cut_inside stands = rw (drop-cons line at 0 inside, stands, add-one at)
 
-pub field_ends : (line : List ℕ) (at : ℕ) → length line ≤ at → field_length (drop at line) ≡ 0
-unfolding field_length
-field_ends line at past = rw (drop_of_length-le line past)
+  pub cut_tab :
+      class_of comma (get_or line at 0) ≡ Tab
+      → cut_from found at (drop at line) ≡ cut_from (one_field_more found at) (at + 1) (drop (at + 1) line)
+  unfolding cut_from
+  cut_tab tabs = rw (drop-cons line at 0 inside, tabs, add-one at)
 
--- nothing of a field stands behind it, and nothing is found before its end
-past_field :
-    (bytes : List ℕ) (found : Cut) (at : ℕ)
-    → (field_length (drop (field_length bytes) bytes) ≡ 0) × (cut_from found at bytes ≡ cut_from found (at + field_length bytes) (drop (field_length bytes) bytes))
-unfolding cut_from field_length
-past_field [] found at = (refl, refl)
-past_field (byte ∷ rest) found at =
-    by_test (in_field (class_of comma byte))
-    (λ stands. let further : at + suc (field_length rest) ≡ suc at + field_length rest = omega arith in rw (stands, further) (past_field rest found (suc at)))
-    (λ stands_not. let same : at + 0 ≡ at = omega arith in rw (stands_not, same, stands_not) (refl, refl))
+  pub cut_last :
+      class_of comma (get_or line at 0) ≡ LineEnd → at + 1 ≡ length line → cut_from found at (drop at line) ≡ one_field_more found at
+  unfolding cut_from
+  cut_last ends last = rw (drop-cons line at 0 inside, ends, ← add-one at, none_left line at inside, eq-eqb _ _ last)
 
--- the same of the field that starts at a place of a line
-pub found_from_end :
-    (line : List ℕ) (from end : ℕ) → end ≡ from + field_length (drop from line) → (found : Cut)
-    → (field_length (drop end line) ≡ 0) × (cut_from found from (drop from line) ≡ cut_from found end (drop end line))
-found_from_end line from end ends found = rw (ends, ← drop-drop (field_length (drop from line)) from line) (past_field (drop from line) found from)
-
--- The scan from end to end: behind a tab it goes on with one field more; a line end ends it, and what something follows has no field.
-pub cut_step :
-    (line : List ℕ) (found : Cut) (at : ℕ) → at < length line → field_length (drop at line) ≡ 0 → {class : Class} → class ≡ class_of comma (get_or line at 0)
-    → {ends : Bool} → ends ≡ ends_line class
-    → cut_from found at (drop at line)
-    ≡ cond ends (cond (eqb (at + 1) (length line)) (one_field_more found at) no_cut) (cut_from (one_field_more found at) (at + 1) (drop (at + 1) line))
-unfolding cut_from
-cut_step line found at inside outside classed tested =
-    by_test (in_field (class_of comma (get_or line at 0))) (λ stands. absurd (omega (arith, field_step line at inside refl (sym stands))))
-    (λ stands_not. rw (tested, classed, ← none_left line at inside, drop-cons line at 0 inside, stands_not, add-one at))
+  pub cut_followed :
+      class_of comma (get_or line at 0) ≡ LineEnd → (at + 1 ≡ length line → ⊥) → cut_from found at (drop at line) ≡ no_cut
+  unfolding cut_from
+  cut_followed ends more = rw (drop-cons line at 0 inside, ends, ← add-one at, none_left line at inside, ne_eqb _ _ more)
 
 -- a line that has not ended at the end of all bytes has none
 pub cut_unended : (line : List ℕ) (found : Cut) (at : ℕ) → length line ≤ at → cut_from found at (drop at line) ≡ no_cut
 unfolding cut_from
 cut_unended line found at past = rw (drop_of_length-le line past)
 
--- a field but the first starts behind the tab that ends the one before
-pub starts_behind : (cut : Cut) (place : ℕ) → 1 ≤ place → start_of cut place ≡ suc (end_of cut (place - 1))
-unfolding start_of
-starts_behind cut place some = let further : place ≡ suc (place - 1) = omega arith in ap (start_of cut) further
+-- what the scan's loop is proved by
+pub ruleset cut_steps = (cut_inside, cut_tab, cut_last, cut_followed, cut_unended)
 
 -- A part of a line between two places of a cut.
 module _ (line : List ℕ) (cut : Cut) (place : ℕ) where

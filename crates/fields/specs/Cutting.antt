@@ -51,11 +51,6 @@ cut_from found at (byte ∷ rest) =
 unfoldable pub cut_of : List ℕ → Cut
 cut_of line = cut_from no_cut 0 line
 
--- how many bytes at the front stand in the first field
-unfoldable pub field_length : List ℕ → ℕ
-field_length [] = 0
-field_length (byte ∷ rest) = cond (in_field (class_of comma byte)) (suc (field_length rest)) 0
-
 -- where a field of a cut ends; 0 where there is none, or its end was not kept
 unfoldable pub end_of : Cut → ℕ → ℕ
 end_of cut place = cond (ltb place cut.count && ltb place most_fields) (get_or cut.ends place 0) 0

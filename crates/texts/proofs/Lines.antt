@@ -1,14 +1,20 @@
 -- Laws of the lines of a text. Assumes nothing.
-use Prim.Native.Nat.{ℕ, ◌+◌, ◌-◌, ◌≤◌, ◌<◌, max}
-use mathlib.Core.Path.{◌≡◌, refl, sym}
-use mathlib.Core.Bool.{◌&&◌}
+use Prim.Native.Nat.{ℕ, ◌+◌, ◌-◌, ◌≤◌, ◌<◌, max, min}
+use mathlib.Core.Path.{◌≡◌, refl, sym, ◌∙◌}
+use mathlib.Core.Bool.{Bool, ◌&&◌}
 use mathlib.Core.List.{List, [], ◌∷◌}
-use lib.ListN.{length, get_or, take, drop, length-take, length-drop, drop_of_length-le}
-use lib.Seq.{drop-cons}
-use lib.Dec.{leb, eqb}
-use native.Mathlib.Numerals.{add-one}
+use lib.ListN.{length, take, drop, length-take, length-drop, drop_of_length-le}
+use lib.Seq.{take_all}
+use lib.Dec.{leb, ltb, eqb}
 use native.Mathlib.Omega.{arith}
-use borrow.Author.Tests.{eq-eqb, ne_eqb, le-leb, lt-leb, leb-true, leb-false}
+use borrow.Author.Tests.{le-leb, lt-leb, leb-true, leb-false, ltb-true, ltb-false}
+use Rattle.std.specs.Prelude.{nat_eq, Some, None}
+use Rattle.std.specs.List.{position, position_or_len}
+use Rattle.std.specs.Option.{unwrap_or}
+use Rattle.std.specs.Slice.{IsGetRangeResult}
+use Rattle.std.specs.declared.option.Option.{Option}
+use denote.Ref.{Bor}
+use mathlib.Core.Logic.{inl, inr}
 use Rattle.ground.proofs.Tests.{by_test, first_of, second_of}
 use Rattle.texts.specs.Lines.{line_end, lines_of, line_length, line_at, line_start, past_line, part_of, part_start}
 
@@ -17,6 +23,38 @@ pub line_within : (text : List ℕ) → line_length text ≤ length text
 unfolding line_length
 line_within [] = omega arith
 line_within (byte ∷ rest) = by_test (eqb byte line_end) (λ same. rw same (omega arith)) (λ other. rw other (omega (arith, line_within rest)))
+
+-- a line goes up to the first byte that ends one, that byte included, and else it is the whole text
+abbrev pub is_end : ℕ → Bool
+is_end byte = nat_eq byte line_end
+
+line_counted : (text : List ℕ) → line_length text ≡ min (position_or_len is_end text + 1) (length text)
+unfolding line_length
+line_counted [] = omega arith
+line_counted (byte ∷ rest) = by_test (eqb byte line_end) (λ same. rw same (omega arith)) (λ other. rw other (omega (arith, line_counted rest)))
+
+line_found : (text : List ℕ) (count : ℕ) → position is_end text ≡ Some count → line_length text ≡ count + 1
+line_found text count found =
+    by_test (ltb (position_or_len is_end text) (length text))
+    (λ some.
+    let same : Some (position_or_len is_end text) ≡ Some count = rw some at found in
+    let place : position_or_len is_end text ≡ count = cc in
+    omega (arith, line_counted text, ltb-true _ _ some))
+    (λ none. let never : None ≡ Some count = rw none at found in cc)
+
+line_unfound : (text : List ℕ) → position is_end text ≡ None → line_length text ≡ length text
+line_unfound text missing =
+    by_test (ltb (position_or_len is_end text) (length text))
+    (λ some. let never : Some (position_or_len is_end text) ≡ None = rw some at missing in cc)
+    (λ none. omega (arith, line_counted text, ltb-false _ _ none))
+
+-- what stands from a place on, where the library cuts it off and nothing stands in for a place past the end
+pub cut_off :
+    (text : List ℕ) (at : ℕ) (found : Option (Bor (List ℕ))) (nothing : Bor (List ℕ)) → nothing.now ≡ []
+    → IsGetRangeResult text at (length text) found → (unwrap_or found nothing).now ≡ drop at text
+cut_off text at None nothing empty (inl past, some) = empty ∙ sym (drop_of_length-le text (omega arith))
+cut_off text at None nothing empty (inr never, some) = absurd (omega arith)
+cut_off text at (Some rest) nothing empty (is, some) = is.2 ∙ take_all (length text - at) (drop at text) (omega (arith, length-drop at text))
 
 module _ (text : List ℕ) (at : ℕ) where
   -- a place is at or past the end of the text, or in it
@@ -28,15 +66,14 @@ module _ (text : List ℕ) (at : ℕ) where
   unfolding line_at lines_of line_length past_line
   walk_done past = rw (drop_of_length-le text past) (refl, refl, omega arith)
 
-  -- a line end stands here
-  pub past_end : at < length text → get_or text at 0 ≡ line_end → past_line text at ≡ at + 1
-  unfolding past_line line_length
-  past_end inside here = rw (drop-cons text at 0 inside, eq-eqb _ _ here)
+  -- the first line end from a place on ends the line; with none, the line is all that is left
+  pub past_found : (count : ℕ) → position is_end (drop at text) ≡ Some count → at + count + 1 ≡ past_line text at
+  unfolding past_line
+  past_found count found = omega (arith, line_found (drop at text) count found)
 
-  -- another byte stands here
-  pub past_other : at < length text → (get_or text at 0 ≡ line_end → ⊥) → past_line text at ≡ past_line text (at + 1)
-  unfolding past_line line_length
-  past_other inside other = rw (drop-cons text at 0 inside, ne_eqb _ _ other, add-one) (omega arith)
+  pub past_unfound : position is_end (drop at text) ≡ None → at + length (drop at text) ≡ past_line text at
+  unfolding past_line
+  past_unfound missing = omega (arith, line_unfound (drop at text) missing)
 
   not_before : at ≤ past_line text at
   unfolding past_line

@@ -7,34 +7,32 @@ ghost use Rattle.texts.specs.Lines.{line_at, line_start, past_line, part_of, par
 ghost use Rattle.texts.specs.Meaning.{LiesAt, Starts, Hands};
 
 // The place past the line that starts at a place; the place itself where none is left.
-#[tactic(auto, using(crate::proofs::Lines::past_end, crate::proofs::Lines::past_other))]
 pub fn line_end(text: &[u8], at: usize) -> usize
     ensures { result ≡ past_line text.now at }
 {
-    let mut end = at;
-    while end < text.len() {
-        if text[end] == b'\n' {
-            return end + 1;
-        }
-        end += 1;
+    let rest = text.get(at..).unwrap_or(&[]);
+    match rest.iter().position(|byte| *byte == b'\n') {
+        Some(count) => at + count + 1,
+        None => at + rest.len(),
     }
-    end
 }
 
-// A part of a text; the empty front where these are no places of it in order.
+// A part of a text; the empty front where these are no places of it in order. The library's `get` would say what the part holds, and not
+// where it lies, which is promised here.
+#[tactic(auto, unfolding(crate::specs::Lines::part_of, crate::specs::Lines::part_start))]
 pub fn part<'a>(text: &'a [u8], from: usize, to: usize) -> &'a [u8]
     ensures result_value { result.now ≡ part_of text.now from to }
     ensures lies_at { LiesAt result text.entry (part_start text.now from to) }
 {
-    if from <= to {
-        if to <= text.len() {
-            return &text[from..to];
-        }
+    if from <= to && to <= text.len() {
+        &text[from..to]
+    } else {
+        &text[..0]
     }
-    &text[..0]
 }
 
 // The line that starts at a place, its end included where there is one; empty where none is left.
+#[tactic(auto, using(crate::proofs::Lines::part_is))]
 pub fn line_at<'a>(text: &'a [u8], at: usize) -> &'a [u8]
     ensures result_value { result.now ≡ line_at text.now at }
     ensures lies_at { LiesAt result text.entry (line_start text.now at) }

@@ -1,11 +1,8 @@
-use Prim.Native.Nat.{◌-◌, ◌≤◌}
+use Prim.Native.Nat.{◌≤◌}
 use mathlib.Core.Path.{◌≡◌}
-use lib.ListN.{length, drop}
-use Rattle.fields.specs.Cutting.{field_length, cut_from, cut_of}
+use lib.ListN.{drop}
+use Rattle.fields.specs.Cutting.{cut_from, cut_of}
 use Rattle.fields.proofs.cut_line.Given as goal
 
-abbrev pub invariant-loop-end : goal.invariant-loop-end
-invariant-loop-end l = (l.found.count ≤ l.end) × (field_length (drop l.end l.line) ≡ 0) × (cut_from l.found l.end (drop l.end l.line) ≡ cut_of l.line)
-
-abbrev pub decreases-loop-end : goal.decreases-loop-end
-decreases-loop-end l = length l.line - l.end
+abbrev pub invariant-loop-at : goal.invariant-loop-at
+invariant-loop-at l = record { counted : l.found.count ≤ l.at; left : cut_from l.found l.at (drop l.at l.line) ≡ cut_of l.line }
