@@ -7,6 +7,7 @@ use mathlib.Core.Logic.{inl, inr, ◌↔◌}
 use lib.ListN.{length, take, drop}
 use native.Mathlib.Omega.{arith}
 use borrow.Author.Tests.{lt-ltb, le-ltb}
+use Rattle.std.specs.Prelude.{Result, Ok, Err}
 use Rattle.ground.specs.Refusal.{Read, wrong, right, check, ◌>>◌}
 use Rattle.ground.specs.Buffer.{onto, fitted, length_of, buffer_after}
 use Rattle.ground.specs.Outcome.{Injective}
@@ -17,7 +18,6 @@ use Rattle.ground.proofs.Writing.{Outcome, unmet, too_long, fits, outcome_of}
 use Rattle.writer.specs.Writing.{as_length}
 use Rattle.writer.specs.Line.{front_after, place_after, held_after}
 use Rattle.writer.specs.Meaning.{Writes, PutBehind}
-use Rattle.std.specs.Prelude.{Result, Ok, Err}
 use Rattle.writer.proofs.Line.{front_length}
 
 -- the paper's number and length tell the cases of an answer apart

@@ -2,8 +2,6 @@
 use Prim.Native.Nat.{ℕ, ◌+◌, ◌-◌, ◌/◌, ◌≤◌, ◌<◌}
 use mathlib.Core.Path.{◌≡◌, refl, sym, ap, ◌∙◌}
 use mathlib.Core.Bool.{Bool, true, false, cond}
-use Rattle.std.specs.Prelude.{Result, Ok, Err}
-use Rattle.ground.specs.declared.Refusal.{Refusal}
 use mathlib.Core.List.{List, [], ◌∷◌, ◌++◌, append_assoc}
 use lib.ListN.{length, take, set, length-append}
 use lib.Seq.{length-take-le, drop-drop}
@@ -11,6 +9,8 @@ use lib.Dec.{leb}
 use native.Mathlib.Omega.{arith}
 use borrow.Author.Tests.{le-leb, lt-leb, lt-ltb, leb-true, leb-false}
 use borrow.Rule.Slice.PartMut.{put_mid, mid_of, mid_len}
+use Rattle.std.specs.Prelude.{Result, Ok, Err}
+use Rattle.ground.specs.declared.Refusal.{Refusal}
 use Rattle.ground.specs.Refusal.{Read, wrong, right, ◌>>=◌, ◌>>◌}
 use Rattle.ground.specs.Limits.{last_hour}
 use Rattle.ground.specs.Buffer.{onto, fitted, length_of, buffer_after}

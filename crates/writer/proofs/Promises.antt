@@ -10,6 +10,7 @@ use lib.Dec.{leb}
 use native.Mathlib.Omega.{arith}
 use borrow.Author.Tests.{leb-true, le-leb, lt-leb}
 use contract.Lifetimes.{Lfts}
+use Rattle.std.specs.Prelude.{Result, Ok, Err}
 use Rattle.ground.specs.Refusal.{Read, wrong, right}
 use Rattle.ground.specs.Spelling.{DigitsOf}
 use Rattle.ground.specs.Digits.{spelled}
@@ -25,7 +26,6 @@ use Rattle.writer.specs.Writing.{hour_text, hour_written, as_length, text_in, fr
 use Rattle.writer.specs.Line.{line_with, line_in}
 use Rattle.writer.specs.Steps.{fields_after, line_made, bytes_of_all}
 use Rattle.writer.specs.Meaning.{HourText, EndsIn, Writes, PutBehind}
-use Rattle.std.specs.Prelude.{Result, Ok, Err}
 use Rattle.writer.proofs.Writing as writing
 use Rattle.writer.proofs.Line as line
 use Rattle.writer.proofs.Answers as answers

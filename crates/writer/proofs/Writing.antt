@@ -5,15 +5,17 @@ use mathlib.Core.Bool.{false}
 use mathlib.Core.List.{List, ◌∷◌, ◌++◌}
 use lib.ListN.{length, length-append, length-take}
 use lib.Dec.{leb}
+use native.Mathlib.Nat.{pow-suc}
 use native.Mathlib.Omega.{arith}
 use borrow.Author.Tests.{le-leb, leb-true, leb-false}
-use native.Mathlib.Nat.{pow-suc}
-use Rattle.ground.proofs.Tests.{by_test}
+use Rattle.std.proofs.Common.{max}
+use Rattle.std.specs.Prelude.{Result, Ok, Err}
 use Rattle.ground.specs.Refusal.{Read, right, check, ◌>>◌}
 use Rattle.ground.specs.Limits.{last_hour}
 use Rattle.ground.specs.Digits.{last_digit, last_digits, spelled}
 use Rattle.classes.specs.Classes.{is_digit}
 use Rattle.ground.specs.Buffer.{onto, fitted, length_of, buffer_after}
+use Rattle.ground.proofs.Tests.{by_test}
 use Rattle.ground.proofs.Checks.{never_right, same_right}
 use Rattle.ground.proofs.Digits.{last_is_digit, length_one, spelled_most, spelled_below, spelled_worth, spelled_plain, last_digits_spelled}
 use Rattle.ground.proofs.Buffer.{front_of_onto}
@@ -22,9 +24,7 @@ use Rattle.hours.specs.Spelling.Spells.{hundredths}
 use Rattle.hours.specs.Reading.{hour_of}
 use Rattle.classes.specs.Classes.{comma}
 use Rattle.writer.specs.Writing.{hour_text, hour_written, as_length, front_of, text_in}
-use Rattle.std.proofs.Common.{max}
 use Rattle.writer.specs.Meaning.{HourText, EndsIn, none, more}
-use Rattle.std.specs.Prelude.{Result, Ok, Err}
 use Rattle.hours.proofs.Spelling.{reads_exactly}
 
 -- an hour's text has three bytes more than its whole part

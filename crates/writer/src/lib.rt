@@ -29,6 +29,7 @@ pub fn digit_count(number: u32) -> usize
 }
 
 // Fills a buffer with the last digits of a number, as many as it has room for.
+#[tactic(auto, using(ground::proofs::Digits::fill_step), unfolding(ground::specs::Digits::last_digits))]
 pub fn put_digits(number: u32, buffer: &mut [u8])
     ensures { buffer.new ≡ last_digits (length buffer.old) number }
 {
@@ -79,9 +80,9 @@ pub fn write_hour(hour: u32, buffer: &mut [u8]) -> Written
 fn put_field<F: FnOnce(&mut [u8])>(
     at: usize,
     size: usize,
-    fill: F,
     stop: u8,
     buffer: &mut [u8],
+    fill: F,
 ) -> Written
     requires { (part : List ℕ) → length part ≡ size → FnOnceTakesAtMut F.FnOnce fill part }
     ensures { (field : List ℕ) → length field ≡ size
@@ -102,13 +103,9 @@ pub fn put_word(so_far: Written, word: &[u8], stop: u8, buffer: &mut [u8]) -> Wr
     ensures result_value { as_length result ≡ place_after (as_length so_far) (right word.now) stop buffer.old }
     ensures buffer_after { buffer.new ≡ held_after (as_length so_far) (right word.now) stop buffer.old }
 {
-    put_field(
-        so_far?,
-        word.len(),
-        |part| part.copy_from_slice(word),
-        stop,
-        buffer,
-    )
+    put_field(so_far?, word.len(), stop, buffer, |part| {
+        part.copy_from_slice(word)
+    })
 }
 
 // Puts a number's digits and the byte that stops them behind a line so far: refusal 7 where they have no room.
@@ -118,13 +115,9 @@ pub fn put_number(so_far: Written, number: u32, stop: u8, buffer: &mut [u8]) -> 
     ensures result_value { as_length result ≡ place_after (as_length so_far) (right (spelled number)) stop buffer.old }
     ensures buffer_after { buffer.new ≡ held_after (as_length so_far) (right (spelled number)) stop buffer.old }
 {
-    put_field(
-        so_far?,
-        digit_count(number),
-        |part| put_digits(number, part),
-        stop,
-        buffer,
-    )
+    put_field(so_far?, digit_count(number), stop, buffer, |part| {
+        put_digits(number, part)
+    })
 }
 
 // Puts an hour's text and the byte that stops it behind a line so far: refusal 4 above the last hour, then 7 where they have no room.
@@ -136,13 +129,9 @@ pub fn put_hour(so_far: Written, hour: u32, stop: u8, buffer: &mut [u8]) -> Writ
 {
     let at = so_far?;
     check(hour <= LAST_HOUR, Refusal::OutOfRange)?;
-    put_field(
-        at,
-        hour_length(hour),
-        |part| fill_hour(hour, part),
-        stop,
-        buffer,
-    )
+    put_field(at, hour_length(hour), stop, buffer, |part| {
+        fill_hour(hour, part)
+    })
 }
 
 // Writes the line that was put together in a buffer of its own, whole or not at all: a line that was refused stays refused,

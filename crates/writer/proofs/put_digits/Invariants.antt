@@ -1,3 +1,4 @@
+-- `put_digits` fills from the back: the digits still to come, before the bytes that stand there, are all the digits.
 use mathlib.Core.Path.{◌≡◌}
 use mathlib.Core.List.{◌++◌}
 use lib.ListN.{length, drop}
