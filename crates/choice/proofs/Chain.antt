@@ -16,7 +16,9 @@ use Rattle.std.specs.declared.ops.RangeInclusive.{RangeInclusive}
 use Rattle.std.proofs.lemmas.Iterator.{YieldsList}
 use Rattle.std.proofs.lemmas.Iterator.Consumers.{YieldsList-from_shown, reduce_from_yields_List}
 
+-- A closure that gives of two items what h gives.
 module _ {A F : Type 0} (g : Mut F (A × (A × Unit {0})) A) (h : A → A → A) (f : F) (acts : (one other given : A) (after : F) → Called g f (one, (other, tt)) given after → (after ≡ f) × (given ≡ h one other)) where
+  -- so it does at each turn over several
   turned : (items : List A) (before after : F × A) → before.0 ≡ f → FoldsTo {P = F × A} (FoldTurn g) before items after → FoldsTo (λ one other given. given ≡ h one other) before.1 items after.1
   turned [] before after same folds = ap (λ turn. turn.1) folds
   turned (item ∷ items) before after same folds =
@@ -31,13 +33,15 @@ picked {S} {A} {F} {steps} {s} {all} g h {f} None ran gives acts = reduce_from_y
 picked {S} {A} {F} {steps} {s} {all} g h {f} (Some last) ran gives acts =
     reduce_from_yields_List h s (Some last) (ran.0, ran.1, ran.3, turned g h f acts ran.1 (f, ran.0) (ran.2, last) refl ran.4) gives
 
--- how far one number is below another, and that it comes right before it
+-- how far one number is below another
 abbrev gap : ℕ → ℕ → ℕ
 gap one other = other - one
 
+-- a number comes right behind another
 abbrev follows : ℕ → ℕ → Type 0
 follows one other = other ≡ one + 1
 
+-- numbers that count up are the first and those from the next on
 one_further :
     (first count next left number : ℕ) → number ≡ first → left + 1 ≡ count → (left ≡ 0) ⊎ (next ≡ first + 1)
     → range_with_len first count ≡ number ∷ range_with_len next left
@@ -45,12 +49,14 @@ one_further first zero next left number here less ahead = absurd (omega arith)
 one_further first (suc others) next left number here less (inl none) = let last : others ≡ 0 = omega arith in rw (last, none, here)
 one_further first (suc others) next left number here less (inr goes) = let same : others ≡ left = omega arith in rw (same, goes, here)
 
+-- behind a number of a range none is left, or the next follows
 none_or_next :
     (first next last : ℕ) (spent : Bool) → (spent ≡ false → next ≡ first + 1)
     → (range_inclusive_len gap next last spent ≡ 0) ⊎ (next ≡ first + 1)
 none_or_next first next last true goes = inl refl
 none_or_next first next last false goes = inr (goes refl)
 
+-- a range gives the numbers that it has left
 counts_up :
     (s : RangeInclusive ℕ)
     → YieldsList (range_inclusive_steps gap follows) (λ x. x) s (range_with_len (range_inclusive_start s) (range_inclusive_left gap s))
