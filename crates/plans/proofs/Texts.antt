@@ -1,15 +1,13 @@
 -- The judgement of both texts: how the list begins, its orders, then the plan. Assumes nothing.
 use Prim.Native.Nat.{ℕ, zero, suc, ◌+◌, ◌≤◌, ◌<◌}
-use mathlib.Core.Path.{◌≡◌, refl, sym, ap, ◌∙◌}
+use mathlib.Core.Path.{◌≡◌, refl, ap, ◌∙◌}
 use mathlib.Core.Bool.{true, false, not}
 use mathlib.Core.List.{List, [], ◌∷◌, ◌++◌}
 use lib.ListN.{length, get_or, take, length-map, get_or-map}
-use lib.Dec.{leb}
 use native.Mathlib.Omega.{arith}
-use borrow.Author.Tests.{leb-true, leb-false, le-leb}
+use borrow.Author.Tests.{le-leb}
 use Rattle.ground.specs.Refusal.{Read, wrong, right, check, ◌>>=◌, ◌>>◌}
 use Rattle.ground.specs.Limits.{longest_text, most_chambers}
-use Rattle.ground.proofs.Tests.{by_test}
 use Rattle.texts.specs.Lines.{line_at, past_line, lines_of}
 use Rattle.lines.specs.Reading.{load_of}
 use Rattle.lines.specs.declared.Order.{Order}

@@ -1,9 +1,6 @@
 -- `judge` looks at the length of both texts, at how the list begins, and then at the rest.
 use mathlib.Core.Path.{◌≡◌, sym, ap, ◌∙◌}
-use Prim.Native.Nat.{◌≤◌}
-use lib.ListN.{length}
 use native.Mathlib.Omega.{arith}
-use Rattle.ground.specs.Limits.{longest_text}
 use Rattle.ground.specs.Refusal.{wrong, right, refusal_number}
 use Rattle.orders.specs.Answers.{opening, begun_by, as_begun}
 use Rattle.plans.proofs.Texts.{list_nine, plan_nine, first_line_faulty, list_begun}
