@@ -13,7 +13,7 @@ use Rattle.std.specs.Prelude.{Option, None, Some}
 use Rattle.ground.specs.Refusal.{Read, wrong, right}
 use Rattle.ground.specs.Buffer.{onto, fitted, length_of, buffer_after}
 use Rattle.ground.proofs.Tests.{by_test, never_both, second_of, not_met}
-use Rattle.ground.proofs.Buffer.{front_of_onto, rest_of_onto, length_of_onto}
+use Rattle.ground.proofs.Buffer.{rest_of_onto, length_of_onto}
 use Rattle.writer.specs.Line.{line_room}
 use Rattle.orders.proofs.Places.{moves_on}
 use Rattle.texts.specs.Lines.{line_at}
@@ -318,3 +318,6 @@ fill_full text {reply} {buffer} {held} {filled} fills on =
     let room = leb-true line_room (length buffer - filled.length) space in
     absurd (never_both (going_on filled.reply (length buffer - filled.length) on room) fills.full))
     (λ short. omega (arith, leb-false line_room (length buffer - filled.length) short, fills.inside))
+
+-- of a buffer that is filled line by line
+pub ruleset filled_on = (nothing_filled, falls, is_on, line_more)

@@ -180,6 +180,7 @@ fn goes_on(filled: Filled, room: usize) -> bool
 
 // Fills a buffer with the next lines of a reply while one is left and there is room for any line: each is whole, and one that cannot be
 // written is left out.
+#[tactic(auto, using(crate::proofs::Filling::filled_on))]
 pub fn fill(text: &[u8], reply: Reply, buffer: &mut [u8]) -> Filled
     ensures { Fills text.now reply buffer.old result buffer.new }
 {
