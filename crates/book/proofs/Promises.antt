@@ -33,7 +33,7 @@ use Rattle.book.proofs.Source as source
 use Rattle.book.proofs.Book.«open».Reads as opening
 use Rattle.book.proofs.Book.take.Reads as take
 use Rattle.book.proofs.Book.hold.Reads as holding
-use Rattle.book.proofs.Book.limits.Reads as limits
+use Rattle.book.specs.declared.TheConstants.Book.{CHAMBERS, ORDERS, LAST_HOUR}
 use Rattle.book.proofs.yes_numbers.Reads as yes_numbers
 
 -- The paper's word and numbers for each case of the answer.
@@ -90,8 +90,8 @@ decision_back (right None) = refl
 decision_back (right (Some offer)) = refl
 
 -- "associated constants for 8, 512 and 999,999"
-pub limits_given : (κs : Lfts 0) (numbers : List ℕ) (after : _) → limits.Learnt κs tt numbers after → numbers ≡ 8 ∷ 512 ∷ 999_999 ∷ []
-limits_given κs numbers after learnt = learnt
+pub limits_given : (CHAMBERS ≡ 8) × (ORDERS ≡ 512) × (LAST_HOUR ≡ 999_999)
+limits_given = (refl, refl, refl)
 
 -- the two numbers of a yes by the names that its case gives them: the chamber, then the start
 pub yes_named :

@@ -4,7 +4,6 @@
 
 ghost use Rattle.std.specs.Prelude.{◌≡◌, ◌&&◌, drop, [], ◌∷◌};
 ghost use Rattle.std.specs.Result.{IfOk};
-ghost use Rattle.ground.specs.Limits.{last_hour, most_chambers, most_orders};
 ghost use Rattle.ground.specs.Refusal.{as_read};
 ghost use Rattle.book.specs.Soundness.{last_free_hour, all_up_to, is_sound, opened};
 ghost use Rattle.book.specs.Settling.{Settles};
@@ -20,7 +19,7 @@ const FREE_HOURS: usize = ground::MOST_CHAMBERS as usize;
 const LAST_FREE_HOUR: u32 = ground::LAST_HOUR;
 
 // What the book holds.
-#[derive(Clone, Copy, Default)]
+#[derive(Clone, Copy, Debug, Default, PartialEq, Eq)]
 pub struct Book {
     pub chambers: u32,
     pub run: u32,
@@ -31,7 +30,7 @@ pub struct Book {
 }
 
 // What an order is answered. A refusal is a number here, since an answer with any number can be written (`replies::write_answer`).
-#[derive(Clone, Copy)]
+#[derive(Clone, Copy, Debug, PartialEq, Eq)]
 pub enum Answer {
     Yes { chamber: u32, start: u32 },
     No,
@@ -49,7 +48,7 @@ fn yes_numbers(answer: Answer) -> [u32; 2]
 }
 
 // An answer and the next book.
-#[derive(Clone, Copy)]
+#[derive(Clone, Copy, Debug, PartialEq, Eq)]
 pub struct Taken {
     pub answer: Answer,
     pub book: Book,
@@ -57,7 +56,7 @@ pub struct Taken {
 
 // A book that was opened, and why it is refused, if it is. They stand side by side and are no Result, since the paper wants a book of a
 // refused opening too, with every field 0.
-#[derive(Clone, Copy)]
+#[derive(Clone, Copy, Debug, PartialEq, Eq)]
 pub struct Opened {
     pub refusal: Option<Refusal>,
     pub book: Book,
@@ -78,13 +77,6 @@ impl Book {
     pub const ORDERS: u32 = ground::MOST_ORDERS;
 
     pub const LAST_HOUR: u32 = ground::LAST_HOUR;
-
-    // The three as numbers: a law can name what a function gives, and no constant.
-    fn limits() -> [u32; 3]
-        ensures { result ≡ most_chambers ∷ most_orders ∷ last_hour ∷ [] }
-    {
-        [Book::CHAMBERS, Book::ORDERS, Book::LAST_HOUR]
-    }
 
     // A fresh book, or refusal 4 and a book with every field 0.
     #[tactic(auto, unfolding(crate::specs::Soundness::opened))]

@@ -16,7 +16,7 @@ pub const MOST_FIELDS: usize = 5;
 
 // How many fields a line has, 0 where it is no single ended line, and where the first of them end. Memory is fixed, so the ends of five are
 // kept and the rest are counted alone; `counts_exactly`, `keeps_ends` and `five_ends` speak of both, and any cut may come to `field`.
-#[derive(Clone, Copy)]
+#[derive(Clone, Copy, Debug, PartialEq, Eq)]
 pub struct Cut {
     pub count: usize,
     pub ends: [usize; MOST_FIELDS],

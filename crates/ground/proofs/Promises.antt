@@ -28,7 +28,6 @@ use Rattle.ground.proofs.Checks.{checked_right, checked_wrong}
 use Rattle.ground.proofs.Refusals as refusals
 use Rattle.ground.proofs.Digits as digits
 use Rattle.ground.proofs.Buffer.{front_of_onto, rest_of_onto, length_of_onto}
-use Rattle.ground.proofs.check_number.Reads as check_number_reads
 use Rattle.ground.proofs.check.Reads as check_reads
 use Rattle.ground.proofs.Refusal.number.Reads as number_reads
 use Rattle.ground.proofs.within.Reads as within_reads
@@ -171,16 +170,6 @@ module _ (κs : Lfts 0) (refusal : Refusal) (after : _) where
   pub number_answers : (answer : ℕ) → number_reads.Learnt κs (refusal, tt) answer after → answer ≡ refusal_number refusal
   number_answers answer learnt = learnt
 
--- `check_number` answers the rest where the check is met, and its number where it is not
-module _ (κs : Lfts 0) (met : Bool) (number rest : ℕ) (after : _) where
-  pub check_number_single : Single (λ answer. check_number_reads.Learnt κs (met, (number, (rest, tt))) answer after)
-  check_number_single one other this that = cc
-
-  pub check_number_answers :
-      (answer : ℕ) → check_number_reads.Learnt κs (met, (number, (rest, tt))) answer after
-      → (met ≡ true → answer ≡ rest) × (met ≡ false → answer ≡ number)
-  check_number_answers answer learnt = (λ holds. learnt ∙ rw holds, λ fails. learnt ∙ rw fails)
-
 -- `within` answers whether the number is at least the low end and at most the high end
 module _ (κs : Lfts 0) (low high number : ℕ) (after : _) where
   pub within_single : Single (λ answer. within_reads.Learnt κs (low, (high, (number, tt))) answer after)
@@ -194,6 +183,5 @@ module _ (κs : Lfts 0) (low high number : ℕ) (after : _) where
 pub nothing_asked :
     ((κs : Lfts 0) (passed : _) → check_reads.Asked κs passed)
     × ((κs : Lfts 0) (passed : _) → number_reads.Asked κs passed)
-    × ((κs : Lfts 0) (passed : _) → check_number_reads.Asked κs passed)
     × ((κs : Lfts 0) (passed : _) → within_reads.Asked κs passed)
-nothing_asked = (λ κs passed. tt, λ κs passed. tt, λ κs passed. tt, λ κs passed. tt)
+nothing_asked = (λ κs passed. tt, λ κs passed. tt, λ κs passed. tt)

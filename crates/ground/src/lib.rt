@@ -91,13 +91,6 @@ pub fn check(met: bool, refusal: Refusal) -> Result<(), Refusal>
     if met { Ok(()) } else { Err(refusal) }
 }
 
-// A check's number where it is not met, else what the checks after it come to; 0 is no refusal.
-pub fn check_number(met: bool, number: u32, rest: u32) -> u32
-    ensures { result ≡ cond met rest number }
-{
-    if met { rest } else { number }
-}
-
 // Whether a number lies in a range; both ends belong to it.
 pub fn within(low: u32, high: u32, number: u32) -> bool
     ensures { result ≡ within low high number }

@@ -16,7 +16,7 @@ use lines::{Order, read_heading, read_order};
 use texts::{line_at, line_end};
 
 // How far the reading of a list has come: the place of the next line, its number, and the book.
-#[derive(Clone, Copy)]
+#[derive(Clone, Copy, Debug, PartialEq, Eq)]
 pub struct Progress {
     pub at: usize,
     pub line: u32,
@@ -45,7 +45,7 @@ impl From<Refusal> for NotBegun {
 
 // The order that a line reads as, its answer, and the progress past it. Where a line does not read the order's numbers are 0, as every other
 // number of a refusal is.
-#[derive(Clone, Copy)]
+#[derive(Clone, Copy, Debug, PartialEq, Eq)]
 pub struct Step {
     pub order: Order,
     pub answer: Answer,

@@ -23,7 +23,7 @@ const ORDERS: usize = MOST_ORDERS as usize;
 const CHAMBERS: usize = MOST_CHAMBERS as usize;
 
 // A fault: its number, whether it stands in the plan or else in the list, its line number, and the place of its line.
-#[derive(Clone, Copy)]
+#[derive(Clone, Copy, Debug, PartialEq, Eq)]
 pub struct Fault {
     pub number: u32,
     pub plan: bool,

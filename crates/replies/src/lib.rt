@@ -78,7 +78,7 @@ pub fn write_sum(taken: u32, kept: u32, buffer: &mut [u8]) -> Written
 
 // How far a reply has come: the number that its list is refused by, if it does not begin; the progress through the list; whether no line is
 // left to be written. A reply that is over still tells the book that its list came to.
-#[derive(Clone, Copy)]
+#[derive(Clone, Copy, Debug, PartialEq, Eq)]
 pub struct Reply {
     pub refusal: Option<u32>,
     pub progress: Progress,
@@ -86,7 +86,7 @@ pub struct Reply {
 }
 
 // How many bytes at the front of a buffer were filled, and how far the reply has come with them.
-#[derive(Clone, Copy)]
+#[derive(Clone, Copy, Debug, PartialEq, Eq)]
 pub struct Filled {
     pub length: usize,
     pub reply: Reply,
