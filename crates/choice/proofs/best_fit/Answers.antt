@@ -1,15 +1,11 @@
 -- `best_fit` picks the best of what the chambers offer, which is the choice among them.
-use Prim.Native.Nat.{◌+◌, ◌-◌}
-use mathlib.Core.Path.{◌≡◌, refl, sym, ◌∙◌}
-use mathlib.Core.List.{List}
-use lib.ListN.{take}
-use native.Mathlib.Omega.{arith}
+use mathlib.Core.Path.{◌≡◌, ◌∙◌}
 use borrow.Author.Tests.{tests}
 use Rattle.std.proofs.Common.{rules}
 use Rattle.std.specs.List.{reduce, filter_map, zip, range_with_len}
-use Rattle.std.proofs.lemmas.Iterator.{YieldsList, YieldsList-from_slice, YieldsList-from_zip}
+use Rattle.std.proofs.lemmas.Iterator.{YieldsList-from_slice, YieldsList-from_zip}
 use Rattle.std.proofs.lemmas.Iterator.Consumers.{YieldsList-from_filter_map, YieldsList-at}
-use Rattle.choice.specs.BestFit.{fuller, best_fit}
+use Rattle.choice.specs.BestFit.{fuller}
 use Rattle.choice.proofs.Choosing.{its_offer, best_offer}
 use Rattle.choice.proofs.Chain.{picked, counted}
 use Rattle.choice.proofs.best_fit.Goals as goal
