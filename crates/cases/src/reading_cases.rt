@@ -4,44 +4,44 @@ ghost use Rattle.std.specs.Prelude.{◌-◌, length};
 ghost use Rattle.std.specs.Iterator.{at_most};
 
 use crate::results;
+use ground::Refusal;
 
 pub(crate) fn hour(field: &[u8]) {
-    match hours::read_hour(field) {
-        Ok(hour) => results::named(b"hour", &[hour]),
-        Err(refusal) => results::refused(refusal.number()),
-    }
+    show(b"hour", hours::read_hour(field).map(|hour| [hour]));
 }
 
 pub(crate) fn number(field: &[u8]) {
-    match hours::read_plain(field) {
-        Ok(number) => results::named(b"number", &[number]),
-        Err(refusal) => results::refused(refusal.number()),
-    }
+    show(b"number", hours::read_plain(field).map(|number| [number]));
 }
 
 pub(crate) fn heading(line: &[u8]) {
-    match lines::read_heading(line) {
-        Ok(heading) => {
-            results::named(b"heading", &[heading.chambers, heading.run]);
-        }
-        Err(refusal) => results::refused(refusal.number()),
-    }
+    let read = lines::read_heading(line);
+    show(
+        b"heading",
+        read.map(|heading| [heading.chambers, heading.run]),
+    );
 }
 
 pub(crate) fn order(line: &[u8]) {
-    match lines::read_order(line) {
-        Ok(order) => {
-            results::named(b"order", &[order.grower, order.ready, order.due]);
-        }
-        Err(refusal) => results::refused(refusal.number()),
-    }
+    let read = lines::read_order(line);
+    show(
+        b"order",
+        read.map(|order| [order.grower, order.ready, order.due]),
+    );
 }
 
 pub(crate) fn load(line: &[u8], count: u32) {
-    match lines::read_load(line, count) {
-        Ok(load) => {
-            results::named(b"load", &[load.order, load.chamber, load.start]);
-        }
+    let read = lines::read_load(line, count);
+    show(
+        b"load",
+        read.map(|load| [load.order, load.chamber, load.start]),
+    );
+}
+
+// What a text reads as: the numbers, behind what they are, or the refusal.
+fn show<const N: usize>(name: &[u8], read: Result<[u32; N], Refusal>) {
+    match read {
+        Ok(numbers) => results::named(name, &numbers),
         Err(refusal) => results::refused(refusal.number()),
     }
 }
