@@ -124,11 +124,12 @@ module _ (list plan : List ℕ) where
     number_is = ap (λ (one : Begun). one.refusal) is
 
     -- a fault of the first line
-    pub first_line_faulty : (begun.refusal ≡ 0 → ⊥) → judged list plan ≡ wrong (fault_of begun.refusal false 1 0 (past_line list 0))
+    pub first_line_faulty :
+        (begun.refusal ≡ 0 → ⊥) → (end : ℕ) → end ≡ past_line list 0 → judged list plan ≡ wrong (fault_of begun.refusal false 1 0 end)
     unfolding judged
-    first_line_faulty some =
+    first_line_faulty some end past =
         let refused = begun_wrong list (λ none. some (number_is ∙ none)) ∙ ap wrong (sym number_is) in
-        rw (list_fits, plan_fits, refused)
+        rw (past, list_fits, plan_fits, refused)
 
     -- else the orders and the plan
     judged_begun : (book : Book) → opening list ≡ right book → judged list plan ≡ both_judged list plan book

@@ -8,9 +8,9 @@ pub returns-then-refusal-ne0 : goal.returns-then-refusal-ne0
 returns-then-refusal-ne0 c =
     let a = c.args in
     ap wrong c.fault_at.ensures
-    ∙ rw c.line_end.ensures
-    (sym
-    (first_line_faulty a.list.now a.plan.now (sym c.in_ok-fitting.ensures) (sym c.in_ok-fitting-2.ensures) c.begin-begun.result c.begin-begun.ensures c.if-refusal-ne0.true))
+    ∙ sym
+    (first_line_faulty a.list.now a.plan.now (sym c.in_ok-fitting.ensures) (sym c.in_ok-fitting-2.ensures) c.begin-begun.result c.begin-begun.ensures c.if-refusal-ne0.true
+    c.line_end.result c.line_end.ensures)
 
 pub judge_with-requires : goal.judge_with-requires
 judge_with-requires c =
