@@ -32,8 +32,8 @@ fn names_order(order: u32, count: usize) -> bool
     (FIRST_ORDER_LINE <= order) & (place_of(order) < count)
 }
 
-// The refusal of a load, from 11 to 14, for orders with these hours that stand on these plan lines, 0 for none. The hours and the lines are
-// three slices, of whatever lengths: a caller may hand in fewer of one than of another, and where there are none they count as 0.
+// The first of the refusals 11 to 14 that a load has. The orders of its list have these hours and stand on these plan lines, 0 for none,
+// in three slices of any lengths: a caller may hand in fewer of one than of another (`refused_exactly`), and past an end they count as 0.
 #[tactic(auto, unfolding(crate::specs::Checks::load_asked))]
 pub fn load_refusal(
     load: Load,

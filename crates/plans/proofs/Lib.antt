@@ -5,6 +5,7 @@ pub mod Pigeonhole
 pub mod Orders
 pub mod Chains
 pub mod Planning
+pub mod Passing
 pub mod Texts
 pub mod Through
 pub mod Loads

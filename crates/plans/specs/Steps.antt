@@ -1,5 +1,5 @@
 -- What the private steps of the judge come to. The public definitions do not rest on it. Assumes nothing.
-use Rattle.std.specs.Prelude.{ℕ, ◌≤◌, ◌≡◌, false, List, [], ◌∷◌, map, take, drop, Result, Ok, Err}
+use Rattle.std.specs.Prelude.{ℕ, ◌≤◌, ◌≡◌, false, List, [], ◌∷◌, suc, map, take, drop, Option, Some, None, Result, Ok, Err}
 use Rattle.ground.specs.Refusal.{Or, Read, wrong, right, ◌>>=◌, ◌>>◌}
 use Rattle.ground.specs.Limits.{most_orders}
 use Rattle.texts.specs.Lines.{lines_of}
@@ -10,6 +10,7 @@ use Rattle.orders.specs.declared.Progress.{Progress}
 use Rattle.loads.specs.Checks.{order_from, load_marked}
 use Rattle.plans.specs.Judging.{ListKnown, through, note_order}
 use Rattle.plans.specs.declared.Fault.{Fault}
+use Rattle.plans.specs.declared.Passed.{Passed}
 
 -- what the orders of a list come to that are left where its reading has come to, with these orders before them
 abbrev pub orders_left : List ℕ → Progress → List Order → Or Fault ListKnown
@@ -40,3 +41,19 @@ load_noted count run readies dues lines text = do
   load ← load_of count text
   load_marked run readies dues lines load
   right load
+
+-- the place of a plan line as the line's number, 0 for none
+abbrev pub line_at_place : Option ℕ → ℕ
+line_at_place None = 0
+line_at_place (Some place) = suc place
+
+-- of the plan lines gone through, the starts of their loads, and the numbers of the lines before them in their chambers
+abbrev pub starts_of : List Passed → List ℕ
+starts_of passed = map (λ line. line.start) passed
+
+abbrev pub befores_of : List Passed → List ℕ
+befores_of passed = map (λ line. line_at_place line.before) passed
+
+-- the numbers of the last lines of the chambers
+abbrev pub lasts_of : List (Option ℕ) → List ℕ
+lasts_of lasts = map line_at_place lasts

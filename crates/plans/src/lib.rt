@@ -22,7 +22,8 @@ const ORDERS: usize = MOST_ORDERS as usize;
 // How many chambers there can be.
 const CHAMBERS: usize = MOST_CHAMBERS as usize;
 
-// A fault: its number, whether it stands in the plan or else in the list, its line number, and the place of its line.
+// A fault: its number, whether it stands in the plan or else in the list, its line number, and the place of its line. Any fault may be
+// handed in (`line_at_fault`), so the number is a number; the laws of the first fault (`FirstFault`) name which text it is by `plan`.
 #[derive(Clone, Copy, Debug, PartialEq, Eq)]
 pub struct Fault {
     pub number: u32,
@@ -56,7 +57,7 @@ fn fitting(text: &[u8], plan: bool) -> Result<(), Fault>
     check(fits, Refusal::TooLong).map_err(|refusal| fault_at(refusal.number(), plan, 0, 0, 0))
 }
 
-// The orders of a list that has begun: their hours are stored at the front of two buffers, and there are so many.
+// The orders of a list that has begun: their hours are stored at the front of two buffers, and how many they are is answered.
 fn read_orders(
     list: &[u8],
     begun: Progress,
@@ -100,9 +101,17 @@ fn note_load(
     Ok(load)
 }
 
+// A plan line that was gone through: the start of its load, and the place of the plan line before it in its chamber.
+#[derive(Clone, Copy)]
+struct Passed {
+    start: u32,
+    before: Option<usize>,
+}
+
 // The loads of a plan, for a list that begins with this book and has orders of these hours: each plan line is noted, and the first earlier
-// load that it overlaps ends the search. For each order the plan line on which it stands is kept, for each chamber the last plan line with
-// a load in it, and for each plan line the one before it in its chamber, 0 for none: the search goes from one to the next.
+// load that it overlaps ends the search, which leaves both walks through a label. The search goes from the last plan line of the chamber
+// to the one before it, and so on. For each order the number of its plan line is kept, 0 for none, as `load_refusal` takes it.
+// `judge` cannot fail, so nothing here may run out of memory: the arrays are fixed, with room for the most lines, and name places.
 fn judge_plan(plan: &[u8], book: Book, readies: &[u32], dues: &[u32]) -> Judgement
     requires readies_len_bound { (length readies.now ≤ most_orders) × (length dues.now ≡ length readies.now) }
     requires chambers_le_most_chambers { book.chambers ≤ most_chambers }
@@ -110,9 +119,11 @@ fn judge_plan(plan: &[u8], book: Book, readies: &[u32], dues: &[u32]) -> Judgeme
 {
     let hold = book.hold();
     let mut lines = [0u32; ORDERS];
-    let mut starts = [0u32; ORDERS];
-    let mut befores = [0u32; ORDERS];
-    let mut lasts = [0u32; CHAMBERS];
+    let mut passed = [Passed {
+        start: 0,
+        before: None,
+    }; ORDERS];
+    let mut lasts = [None; CHAMBERS];
     let mut line: u32 = 1;
     let mut at: usize = 0;
     'plan: while at < plan.len() {
@@ -122,19 +133,21 @@ fn judge_plan(plan: &[u8], book: Book, readies: &[u32], dues: &[u32]) -> Judgeme
         let chamber = (load.chamber - 1) as usize;
         let last = lasts[chamber];
         let mut earlier = last;
-        while earlier != 0 {
-            let there = (earlier - 1) as usize;
-            if overlap(hold, load.chamber, load.start, load.chamber, starts[there]) {
+        while let Some(there) = earlier {
+            let other = passed[there];
+            if overlap(hold, load.chamber, load.start, load.chamber, other.start) {
                 break 'plan;
             }
-            earlier = befores[there];
+            earlier = other.before;
         }
         let order = place_of(load.order);
         lines[order] = line;
         let place = (line - 1) as usize;
-        starts[place] = load.start;
-        befores[place] = last;
-        lasts[chamber] = line;
+        passed[place] = Passed {
+            start: load.start,
+            before: last,
+        };
+        lasts[chamber] = Some(place);
         line += 1;
         at = end;
     }
@@ -145,7 +158,8 @@ fn judge_plan(plan: &[u8], book: Book, readies: &[u32], dues: &[u32]) -> Judgeme
     Err(fault_at(number, true, line, at, line_end(plan, at)))
 }
 
-// The list that has begun so, and the plan.
+// The list that has begun so, and the plan. The hours are in two buffers, as `load_refusal` takes them, and fixed ones, since `judge` cannot
+// fail and so cannot run out of memory.
 fn judge_with(list: &[u8], plan: &[u8], begun: Progress) -> Judgement
     requires { (opening list.now ≡ right begun.book) × (begun ≡ begun_with list.now begun.book) }
     ensures { as_judged result ≡ both_judged list.now plan.now begun.book }
