@@ -9,7 +9,8 @@ use Rattle.std.proofs.Common.{ℕ, Result, Ok, Err, rules}
 use Rattle.std.specs.Result.{MatchResult, IsErrAnd}
 use Rattle.lines.specs.declared.Load.{Load}
 use Rattle.plans.specs.declared.Fault.{Fault}
-use Rattle.ground.specs.Refusal.{wrong}
+use Rattle.ground.specs.declared.Refusal.{Refusal}
+use Rattle.ground.specs.Refusal.{wrong, refusal_number, as_read}
 use Rattle.ground.specs.Limits.{most_chambers, most_orders}
 use Rattle.texts.proofs.WholeText.{moves_on, ends_inside}
 use Rattle.ground.proofs.Buffer.{zeros_at}
@@ -39,7 +40,7 @@ noting c =
       paired = c.requires.readies_len_bound.1;
       most = c.requires.readies_len_bound.0;
       chambers = c.requires.chambers_le_most_chambers;
-      noted = noted_line _ _ _ _ _ _ _ _ _ c.line_end-end.ensures c.note_load-noted.ensures ∙ (let same : c.note_load-noted.result ≡ Ok c.in_ok-load.load = search rules in ap as_judged same);
+      noted = noted_line _ _ _ _ _ _ _ _ _ c.line_end-end.ensures c.note_load-noted.ensures ∙ (let same : c.note_load-noted.result ≡ Ok c.in_ok-load.load = search rules in ap as_read same);
     }
 
 -- there is room for the load, and for the line of its order
@@ -67,22 +68,23 @@ slice_bounds-note_load-end c = omega (arith, (inside (goal.at.slice_bounds-note_
 
 -- an error that was made of another is that other's
 made_of :
-    (given : Result Load ℕ) (out : Result Load Fault) (one : Fault) (Made : ℕ → Fault → Type 0)
-    → MatchResult given (λ load. out ≡ Ok load) (λ number. IsErrAnd out (Made number)) → out ≡ Err one → (number : ℕ) × (given ≡ Err number) × Made number one
+    (given : Result Load Refusal) (out : Result Load Fault) (one : Fault) (Made : Refusal → Fault → Type 0)
+    → MatchResult given (λ load. out ≡ Ok load) (λ refusal. IsErrAnd out (Made refusal)) → out ≡ Err one
+    → (refusal : Refusal) × (given ≡ Err refusal) × Made refusal one
 made_of (Ok load) out one Made cases failed = absurd (cc)
-made_of (Err number) out one Made cases failed = (number, refl, rw failed at cases)
+made_of (Err refusal) out one Made cases failed = (refusal, refl, rw failed at cases)
 
 pub returns-in_err-load : goal.returns-in_err-load
 returns-in_err-load c =
     let made = made_of _ _ c.in_err-load.field-0.0 _ c.map_err.ensures.cases c.in_err-load.was in
     let refused : c.note_load-noted.result ≡ Err made.0 = made.1 in
-    let fault : c.in_err-load.field-0.0 ≡ fault_of made.0 true c.plan.line c.plan.at c.line_end-end.result = search rules in
+    let fault : c.in_err-load.field-0.0 ≡ fault_of (refusal_number made.0) true c.plan.line c.plan.at c.line_end-end.result = search rules in
     let out : c.from_residual.result ≡ Err c.in_err-load.field-0.0 = search rules in
     ap as_judged out
     ∙ ap wrong fault
     ∙ sym
-    (reached_refused c.plan.invariant c.requires.readies_len_bound.1 c.plan-test.true made.0 c.line_end-end.result c.line_end-end.ensures
-    (noted_line _ _ _ _ _ _ _ _ _ c.line_end-end.ensures c.note_load-noted.ensures ∙ ap as_judged refused))
+    (reached_refused c.plan.invariant c.requires.readies_len_bound.1 c.plan-test.true (refusal_number made.0) c.line_end-end.result c.line_end-end.ensures
+    (noted_line _ _ _ _ _ _ _ _ _ c.line_end-end.ensures c.note_load-noted.ensures ∙ ap as_read refused))
 
 pub overflow_sub-chamber : goal.overflow_sub-chamber
 overflow_sub-chamber c = (load_chamber (noting (goal.at.overflow_sub-chamber c).In_ok-load)).0
@@ -149,7 +151,7 @@ returns c =
             chambers = pre.chambers_le_most_chambers;
             noted =
                 noted_line _ _ _ _ _ _ _ _ _ w.line_end-end.ensures w.note_load-noted.ensures
-                ∙ (let same : w.note_load-noted.result ≡ Ok w.in_ok-load.load = search rules in ap as_judged same);
+                ∙ (let same : w.note_load-noted.result ≡ Ok w.in_ok-load.load = search rules in ap as_read same);
           } in
           ap wrong c.fault_at.ensures
           ∙ rw (c.number-number.ensures, c.line_end.ensures)
