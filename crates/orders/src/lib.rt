@@ -2,10 +2,9 @@
 // Any bytes and any progress may come. Assumes nothing.
 #![tactic(auto)]
 
-ghost use Rattle.std.specs.Prelude.{◌≡◌, ◌≤◌};
-ghost use Rattle.ground.specs.Refusal.{wrong, right, refusal_number, as_read};
+ghost use Rattle.std.specs.Prelude.{◌≡◌};
+ghost use Rattle.ground.specs.Refusal.{wrong, right, refusal_number};
 ghost use Rattle.texts.specs.Lines.{line_at};
-ghost use Rattle.lines.specs.Reading.{heading_of};
 ghost use Rattle.book.specs.Taking.{told, answer_of};
 ghost use Rattle.book.specs.declared.Answer.TheVariants as Answer;
 ghost use Rattle.orders.specs.Answers.{opening, decision, book_past, refused_line, as_begun, begun_by, order_in, Stepped};
@@ -84,8 +83,9 @@ fn booked(past: Progress, order: Order) -> Step
 }
 
 // A refused line: the progress past it has the book as it was.
-fn passed(past: Progress, number: u32) -> Step
-    ensures { (result.order ≡ order_in (wrong number)) × (told result.answer ≡ told (Answer.Refused number)) × (result.progress ≡ past) }
+fn passed(past: Progress, refusal: Refusal) -> Step
+    ensures { (result.order ≡ order_in (wrong (refusal_number refusal))) × (told result.answer ≡ told (Answer.Refused (refusal_number refusal)))
+        × (result.progress ≡ past) }
 {
     Step {
         order: Order {
@@ -93,7 +93,7 @@ fn passed(past: Progress, number: u32) -> Step
             ready: 0,
             due: 0,
         },
-        answer: Answer::Refused(number),
+        answer: Answer::Refused(refusal.number()),
         progress: past,
     }
 }
@@ -112,6 +112,6 @@ pub fn next(text: &[u8], progress: Progress) -> Step
     };
     match read_order(line) {
         Ok(order) => booked(past, order),
-        Err(refusal) => passed(past, refusal.number()),
+        Err(refusal) => passed(past, refusal),
     }
 }

@@ -10,7 +10,7 @@ ghost use Rattle.writer.specs.Line.{line_room};
 ghost use Rattle.writer.specs.Steps.{Comes, bytes_of_all};
 ghost use Rattle.replies.specs.Replies.{sum_line, reply_written};
 ghost use Rattle.replies.specs.Filling.{bytes_in, reply_begun, line_due, past_line_due, may_go_on, Fills};
-ghost use Rattle.replies.specs.Steps.{answer_put, reply_put, sum_put, answer_room, count_in, LineBehind};
+ghost use Rattle.replies.specs.Steps.{answer_put, reply_put, sum_put, answer_room, LineBehind};
 
 use book::{Answer, Book};
 use orders::Progress;
@@ -146,17 +146,7 @@ fn write_next(text: &[u8], reply: Reply, buffer: &mut [u8]) -> (Written, Reply)
     (written, ended)
 }
 
-// How many bytes a writing wrote: none where it was refused.
-fn count_in(written: Written) -> usize
-    ensures { result ≡ count_in (as_length written) }
-{
-    match written {
-        Ok(length) => length,
-        Err(_) => 0,
-    }
-}
-
-// Puts the next line of a reply behind those that a buffer is filled with.
+// Puts the next line of a reply behind those that a buffer is filled with; one that is refused is left out.
 #[tactic(auto, using(crate::proofs::Filling::written_behind))]
 fn put_behind(text: &[u8], filled: Filled, buffer: &mut [u8]) -> Filled
     requires { filled.length + line_room ≤ length buffer.old }
@@ -164,7 +154,7 @@ fn put_behind(text: &[u8], filled: Filled, buffer: &mut [u8]) -> Filled
 {
     let (written, reply) = write_next(text, filled.reply, &mut buffer[filled.length..]);
     Filled {
-        length: filled.length + count_in(written),
+        length: filled.length + written.unwrap_or(0),
         reply,
     }
 }
