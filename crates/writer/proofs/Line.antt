@@ -23,8 +23,8 @@ use Rattle.texts.specs.Lines.{line_end}
 use Rattle.fields.specs.Fields.{tab}
 use Rattle.fields.specs.Meaning.{tabbed}
 use Rattle.writer.specs.Writing.{hour_text, hour_written}
-use Rattle.writer.specs.Line.{front_after, Puts, line_with, line_in}
-use Rattle.writer.specs.Steps.{fields_after, Comes, bytes_of, bytes_of_all, texts_of, line_made}
+use Rattle.writer.specs.Line.{front_after, line_with, line_in}
+use Rattle.writer.specs.Steps.{Puts, fields_after, Comes, bytes_of, bytes_of_all, texts_of, line_made}
 use Rattle.writer.proofs.Writing.{length_of_text}
 
 -- a check that was passed was met

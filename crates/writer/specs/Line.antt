@@ -1,6 +1,6 @@
 -- One way of writing a line: field behind field in a buffer of its own, each with the byte that stops it, and then whole or not at all.
 -- Assumes nothing.
-use Rattle.std.specs.Prelude.{ℕ, ◌+◌, ◌≡◌, List, [], ◌∷◌, ◌++◌, length, take, leb, ltb}
+use Rattle.std.specs.Prelude.{ℕ, ◌+◌, List, [], ◌∷◌, ◌++◌, length, take, leb, ltb}
 use Rattle.ground.specs.Refusal.{Read, right, check, ◌>>=◌, ◌>>◌}
 use Rattle.ground.specs.Buffer.{length_of, buffer_after}
 use Rattle.texts.specs.Lines.{line_end}
@@ -26,10 +26,6 @@ place_after so_far field stop buffer = length_of (front_after so_far field stop 
 
 abbrev pub held_after : Read ℕ → Read (List ℕ) → ℕ → List ℕ → List ℕ
 held_after so_far field stop buffer = buffer_after buffer (front_after so_far field stop buffer)
-
--- what a field put behind a line so far comes to
-abbrev pub Puts : Read ℕ → Read (List ℕ) → ℕ → List ℕ → Read ℕ → List ℕ → Type 0
-Puts so_far field stop buffer answer held = (answer ≡ place_after so_far field stop buffer) × (held ≡ held_after so_far field stop buffer)
 
 -- "Each line ends with byte 10": fields with a tab between each two and the line end behind
 abbrev pub line_with : List (List ℕ) → List ℕ

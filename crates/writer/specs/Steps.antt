@@ -6,6 +6,10 @@ use Rattle.texts.specs.Lines.{line_end}
 use Rattle.fields.specs.Fields.{tab}
 use Rattle.writer.specs.Line.{place_after, held_after, line_with}
 
+-- what a field put behind a line so far comes to
+abbrev pub Puts : Read ℕ → Read (List ℕ) → ℕ → List ℕ → Read ℕ → List ℕ → Type 0
+Puts so_far field stop buffer answer held = (answer ≡ place_after so_far field stop buffer) × (held ≡ held_after so_far field stop buffer)
+
 -- fields put one behind the other, a tab behind each and the line end behind the last: the place behind them, and the buffer then
 unfoldable pub fields_after : Read ℕ → List (Read (List ℕ)) → List ℕ → Read ℕ × List ℕ
 fields_after so_far [] buffer = (so_far, buffer)

@@ -9,11 +9,12 @@ ghost use Rattle.ground.specs.Digits.{spelled, last_digits};
 ghost use Rattle.ground.specs.Buffer.{fitted, length_of, buffer_after};
 ghost use Rattle.classes.specs.Classes.{comma};
 ghost use Rattle.writer.specs.Writing.{hour_text, hour_written, as_length, front_of, text_in};
-ghost use Rattle.writer.specs.Line.{Puts, place_after, held_after, line_in};
+ghost use Rattle.writer.specs.Line.{place_after, held_after, line_in};
+ghost use Rattle.writer.specs.Steps.{Puts};
 
 use ground::{LAST_HOUR, Refusal, check};
 
-// Room enough for any line that a program prints or a plan has.
+// Room enough for any line that a program prints or a plan has: an array of so many bytes, since a writer that asks for memory could fail.
 pub const LINE_ROOM: usize = 48;
 
 // What a writing answers: the length of what stands at the buffer's front now, or the refusal's number.
@@ -34,6 +35,7 @@ pub fn put_digits(number: u32, buffer: &mut [u8])
     ensures { buffer.new ≡ last_digits (length buffer.old) number }
 {
     let mut left = number;
+    // By place: of what is written through `iter_mut().rev()` the library says nothing afterwards.
     for at in (0..buffer.len()).rev() {
         buffer[at] = b'0' + (left % 10) as u8;
         left /= 10;
@@ -155,6 +157,7 @@ pub fn text_in<'a>(written: Written, buffer: &'a [u8]) -> &'a [u8]
     ensures result_value { result.now ≡ text_in written buffer.now }
     ensures ref_ptr_value { (result.ref_ptr.0 ≡ buffer.entry.ref_ptr.0) × (result.ref_ptr.1 ≡ buffer.entry.ref_ptr.1) }
 {
+    // By a test: the library says which bytes `get` gives, and not where they lie, as `ref_ptr_value` does.
     match written {
         Ok(length) if length <= buffer.len() => &buffer[..length],
         _ => &buffer[..0],
