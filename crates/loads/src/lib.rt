@@ -52,7 +52,8 @@ pub fn load_refusal(
     check(end <= u64::from(hour_at(dues, place)), Refusal::Late)
 }
 
-// Whether two loads overlap: they stand in one chamber, and each starts before the other ends.
+// Whether two loads overlap: they stand in one chamber, and each starts before the other ends. Of each load it takes the chamber and the
+// start, which is all that its law speaks of (`overlap_exactly`): a caller need not have its order.
 pub fn overlap(hold: u32, chamber: u32, start: u32, other: u32, begins: u32) -> bool
     ensures { result ≡ overlap hold (load_from chamber start) (load_from other begins) }
 {

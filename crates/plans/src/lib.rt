@@ -57,7 +57,8 @@ fn fitting(text: &[u8], plan: bool) -> Result<(), Fault>
     check(fits, Refusal::TooLong).map_err(|refusal| fault_at(refusal.number(), plan, 0, 0, 0))
 }
 
-// The orders of a list that has begun: their hours are stored at the front of two buffers, and how many they are is answered.
+// The orders of a list that has begun: their hours are stored at the front of two buffers, and how many they are is answered. The loop goes
+// from line to line by the progress, which says where the next one starts.
 fn read_orders(
     list: &[u8],
     begun: Progress,
