@@ -5,7 +5,7 @@ use Prim.Native.Nat.{◌≤◌, ◌<◌}
 use mathlib.Core.Path.{◌≡◌, refl, sym, ap, ◌∙◌}
 use lib.ListN.{length}
 use native.Mathlib.Omega.{arith}
-use Rattle.std.proofs.Common.{ℕ, Result, Ok, Err, rules}
+use Rattle.std.proofs.Common.{Result, Ok, Err, rules}
 use Rattle.std.specs.Result.{MatchResult, IsErrAnd}
 use Rattle.lines.specs.declared.Load.{Load}
 use Rattle.plans.specs.declared.Fault.{Fault}
