@@ -59,6 +59,7 @@ fn fitting(text: &[u8], plan: bool) -> Result<(), Fault>
 
 // The orders of a list that has begun: their hours are stored at the front of two buffers, and how many they are is answered. The loop goes
 // from line to line by the progress, which says where the next one starts.
+#[tactic(auto, using(crate::proofs::Orders::gone_next, crate::proofs::Orders::further))]
 fn read_orders(
     list: &[u8],
     begun: Progress,

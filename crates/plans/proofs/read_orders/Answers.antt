@@ -4,7 +4,7 @@ use mathlib.Core.Path.{sym, ap, ◌∙◌}
 use native.Mathlib.Omega.{arith}
 use Rattle.ground.specs.Refusal.{wrong}
 use Rattle.ground.specs.Limits.{most_orders}
-use Rattle.plans.proofs.Orders.{further, gone_end, gone_fault, gone_room, gone_next}
+use Rattle.plans.proofs.Orders.{gone_end, gone_fault, gone_room}
 use Rattle.plans.proofs.read_orders.Goals as goal
 use Rattle.plans.proofs.read_orders.Goals.{In_default}
 
@@ -23,19 +23,6 @@ bounds-readies-count c = omega (arith, room_at c, c.loop-progress.invariant.size
 
 pub bounds-dues-count : goal.bounds-dues-count
 bounds-dues-count c = omega (arith, room_at c, c.loop-progress.invariant.sized.1)
-
-pub loop-progress-smaller : goal.loop-progress-smaller
-loop-progress-smaller c =
-    omega (
-      arith,
-      c.loop-progress-test.true,
-      further c.args.list.now c.loop-progress.progress c.next-step.result c.next-step.ensures c.loop-progress-test.true,
-    )
-
-pub loop-progress-preserved : goal.loop-progress-preserved
-loop-progress-preserved c =
-    gone_next c.loop-progress.invariant c.next-step.result c.next-step.ensures c.loop-progress-test.true c.in_default.not-Refused
-    c.requires.list_len_bound
 
 pub returns : goal.returns
 returns c =
