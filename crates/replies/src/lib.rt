@@ -93,7 +93,6 @@ pub struct Filled {
 }
 
 // The reply to a text, of which no line is written yet. A list that does not begin has a book with every field 0.
-#[tactic(auto, unfolding(book::specs::Soundness::opened))]
 pub fn begin(text: &[u8]) -> Reply
     ensures { result ≡ reply_begun text.now }
 {
@@ -108,7 +107,7 @@ pub fn begin(text: &[u8]) -> Reply
             progress: Progress {
                 at: 0,
                 line: refused.line,
-                book: Book::open(0, 0).book,
+                book: Book::default(),
             },
             over: false,
         },

@@ -70,10 +70,7 @@ pub fn next<'a>(walk: Walk<'a>) -> Handed<'a>
     let line = part(walk.text, walk.at, at);
     Handed {
         line,
-        walk: Walk {
-            text: walk.text,
-            at,
-        },
+        walk: Walk { at, ..walk },
     }
 }
 
