@@ -19,7 +19,7 @@ use Rattle.lines.proofs.Promises.{heading_fault, heading_ranges, line_fault_from
 use Rattle.book.specs.Soundness.{opened}
 use Rattle.book.specs.declared.Book.{Book}
 use Rattle.book.proofs.Promises.{opened_fresh}
-use Rattle.orders.specs.Answers.{book_for, opening, refused_line, begun_with, begun_by}
+use Rattle.orders.specs.Answers.{book_for, opening, refused_line, begun_with, begun_by, stopped_at}
 use Rattle.orders.specs.declared.Progress.{Progress}
 
 -- the numbers of a first line open a fresh book
@@ -112,14 +112,17 @@ module _ (text : List ℕ) where
 
   -- a list that does not begin is refused by its number at the line refused
   pub begun_wrong :
-      (number line : ℕ) → begun_by text (opening text) ≡ wrong (number, line) → (opening text ≡ wrong number) × (line ≡ refused_line number)
-  begun_wrong number line refused = go (opening text) refused
+      (number : ℕ) (progress : Progress) → begun_by text (opening text) ≡ wrong (number, progress)
+      → (opening text ≡ wrong number) × (progress ≡ stopped_at (refused_line number))
+  begun_wrong number progress refused = go (opening text) refused
     where
-      go : (read : Read Book) → begun_by text read ≡ wrong (number, line) → (read ≡ wrong number) × (line ≡ refused_line number)
+      go :
+          (read : Read Book) → begun_by text read ≡ wrong (number, progress)
+          → (read ≡ wrong number) × (progress ≡ stopped_at (refused_line number))
       go (wrong other) refused =
           let same = same_wrong refused in
           let numbers : other ≡ number = ap (λ pair. pair.0) same in
-          (ap wrong numbers, sym (ap (λ pair. pair.1) same) ∙ ap refused_line numbers)
+          (ap wrong numbers, sym (ap (λ pair. pair.1) same) ∙ ap (λ one. stopped_at (refused_line one)) numbers)
       go (right book) refused = absurd (never_right (sym refused))
 
   -- and one that begins is where its book begins

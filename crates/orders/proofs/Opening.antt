@@ -1,4 +1,5 @@
 -- How a list begins, said of its first line: `opening`, and whatever the contract of `begin` admits. Assumes nothing.
+use Rattle.ground.specs.declared.Refusal.{Refusal}
 use Prim.Native.Nat.{ℕ, ◌≤◌, ◌<◌}
 use mathlib.Core.Path.{◌≡◌, refl, sym, ap, ◌∙◌}
 use mathlib.Core.Logic.{◌⊎◌, inl, inr, ⊎_elim, ◌↔◌}
@@ -10,7 +11,7 @@ use borrow.Author.Tests.{eqb-true, eq-eqb}
 use contract.Lifetimes.{Lfts}
 use denote.Ref.{Bor}
 use Rattle.std.specs.Prelude.{Result, Ok, Err}
-use Rattle.ground.specs.Refusal.{Read, wrong, right}
+use Rattle.ground.specs.Refusal.{Read, wrong, right, refusal_number}
 use Rattle.ground.specs.Outcome.{Injective}
 use Rattle.ground.specs.declared.Refusal.TheVariants.{TooLong}
 use Rattle.ground.proofs.Checks.{never_right, same_right, same_wrong}
@@ -42,8 +43,20 @@ begun_told (Err one) (Ok other) same = absurd (never_right same)
 begun_told (Err one) (Err other) same =
     let both = same_wrong same in
     let refusals : one.refusal ≡ other.refusal = refusals_told one.refusal other.refusal (ap (λ pair. pair.0) both) in
-    let lines : one.line ≡ other.line = ap (λ pair. pair.1) both in
-    λ i. Err (record { refusal = refusals i; line = lines i })
+    let progresses : one.progress ≡ other.progress = ap (λ pair. pair.1) both in
+    λ i. Err (record { refusal = refusals i; progress = progresses i })
+
+-- what reads as a refusal by a number is one, with the progress that is read
+refused_as :
+    (begun : Result Progress NotBegun) (number : ℕ) (progress : Progress) → as_begun begun ≡ wrong (number, progress)
+    → (refusal : Refusal) × (refusal_number refusal ≡ number) × (begun ≡ Err (record { refusal = refusal; progress = progress }))
+refused_as (Ok one) number progress same = absurd (never_right (sym same))
+refused_as (Err refused) number progress same =
+    let both = same_wrong same in (
+      refused.refusal,
+      ap (λ pair. pair.0) both,
+      ap (λ (one : Progress). Err (record { refusal = refused.refusal; progress = one })) (ap (λ pair. pair.1) both),
+    )
 
 -- the numbers of a first line are those of a sound book
 pub heading_sound : (line : List ℕ) (heading : Heading) → HeadingReads line heading → Sound (new_book heading.chambers heading.run)
@@ -90,17 +103,24 @@ module _ (text first : List ℕ) (further : List (List ℕ)) (cut : FirstOf text
 
 module _ (κs : Lfts 1) (text : Bor (List ℕ)) (begun : Result Progress NotBegun) (after : _) (learnt : begin.Learnt κs (text, tt) begun after) where
   -- a list that is too long
-  pub begun_too_long : 65_536 < length text.now → begun ≡ Err (record { refusal = TooLong; line = 0 })
-  begun_too_long over = begun_told begun (Err (record { refusal = TooLong; line = 0 })) (learnt ∙ ap (begun_by text.now) (too_long text.now over))
+  pub begun_too_long :
+      65_536 < length text.now → begun ≡ Err (record { refusal = TooLong; progress = record { at = 0; line = 0; book = new_book 0 0 } })
+  begun_too_long over =
+      begun_told begun (Err (record { refusal = TooLong; progress = record { at = 0; line = 0; book = new_book 0 0 } }))
+      (learnt ∙ ap (begun_by text.now) (too_long text.now over))
 
   module _ (first : List ℕ) (further : List (List ℕ)) (cut : FirstOf text.now first further) (within : length text.now ≤ 65_536) where
     -- one whose first line is at fault
-    pub begun_at_fault : (number : ℕ) → HeadingFault first number → as_begun begun ≡ wrong (number, 1)
+    pub begun_at_fault :
+        (number : ℕ) → HeadingFault first number
+        → (refusal : Refusal) × (refusal_number refusal ≡ number)
+        × (begun ≡ Err (record { refusal = refusal; progress = record { at = 0; line = 1; book = new_book 0 0 } }))
     begun_at_fault number fault =
         let refused : heading_of (line_at text.now 0) ≡ wrong number =
         (heading_fault (line_at text.now 0) number).1 (rw (first_only text.now 0 cut).0 at fault) in
-        learnt ∙ ap (begun_by text.now) (heading_wrong text.now within number refused)
-        ∙ ap (λ line. not_begun line number) (first_line_refused (line_at text.now 0) number refused)
+        refused_as begun number (record { at = 0; line = 1; book = new_book 0 0 })
+        (learnt ∙ ap (begun_by text.now) (heading_wrong text.now within number refused)
+        ∙ ap (λ line. not_begun line number) (first_line_refused (line_at text.now 0) number refused))
 
     -- and one that begins
     pub begun_reading :

@@ -1,6 +1,7 @@
 -- What this room promises: of whatever its contracts admit, and of the definitions
 -- that they cite. Each is a line over a law of this folder.
 -- Assumes nothing.
+use Rattle.ground.specs.declared.Refusal.{Refusal}
 use Prim.Native.Nat.{ℕ, ◌+◌, ◌≤◌, ◌<◌, min}
 use mathlib.Core.Path.{◌≡◌, refl, sym, ap, ◌∙◌}
 use mathlib.Core.Logic.{◌⊎◌, ◌↔◌}
@@ -10,7 +11,7 @@ use native.Mathlib.Omega.{arith}
 use contract.Lifetimes.{Lfts}
 use denote.Ref.{Bor}
 use Rattle.std.specs.Prelude.{Result, Ok, Err}
-use Rattle.ground.specs.Refusal.{Read, wrong, right}
+use Rattle.ground.specs.Refusal.{Read, wrong, right, refusal_number}
 use Rattle.ground.specs.Outcome.{Injective, Single}
 use Rattle.ground.specs.declared.Refusal.TheVariants.{TooLong}
 use Rattle.ground.proofs.Outcome.{single_answer}
@@ -85,19 +86,29 @@ pub refused_empty : opening [] ≡ wrong 1
 unfolding opening heading_of line_of shape_of is_ended line_at line_length
 refused_empty = refl
 
--- different beginnings never read the same: the refusal's number, and the line refused, tell what is refused
+-- a beginning reads as its progress, or as the refusal's number with the progress that comes with it
+pub begun_reads :
+    (progress : Progress) (refused : NotBegun)
+    → (as_begun (Ok progress) ≡ right progress) × (as_begun (Err refused) ≡ wrong (refusal_number refused.refusal, refused.progress))
+begun_reads progress refused = (refl, refl)
+
+-- different beginnings never read the same
 pub begun_told : Injective as_begun
 begun_told = openings.begun_told
 
 -- Any text, and whatever `begin` admits.
 module _ (κs : Lfts 1) (text : Bor (List ℕ)) (begun : Result Progress NotBegun) (after : _) (learnt : begin.Learnt κs (text, tt) begun after) where
-  -- 1b, 1c: a text longer than 65,536 bytes is refused by 9 at line 0
-  pub begin_too_long : 65_536 < length text.now → begun ≡ Err (record { refusal = TooLong; line = 0 })
+  -- 1b, 1c: a text longer than 65,536 bytes is refused by 9 at line 0, with a book of which every field is 0
+  pub begin_too_long :
+      65_536 < length text.now → begun ≡ Err (record { refusal = TooLong; progress = record { at = 0; line = 0; book = new_book 0 0 } })
   begin_too_long = openings.begun_too_long κs text begun after learnt
 
   module _ (first : List ℕ) (further : List (List ℕ)) (cut : FirstOf text.now first further) (within : length text.now ≤ 65_536) where
     -- one whose first line is at fault is refused by that at line 1
-    pub begin_at_fault : (number : ℕ) → HeadingFault first number → as_begun begun ≡ wrong (number, 1)
+    pub begin_at_fault :
+        (number : ℕ) → HeadingFault first number
+        → (refusal : Refusal) × (refusal_number refusal ≡ number)
+        × (begun ≡ Err (record { refusal = refusal; progress = record { at = 0; line = 1; book = new_book 0 0 } }))
     begin_at_fault = openings.begun_at_fault κs text begun after learnt first further cut within
 
     -- and one whose first line reads begins: the place past that line, line 2, and a fresh book

@@ -77,20 +77,25 @@ yeses (answer ∷ answers) = yeses_in answer + yeses answers
 abbrev pub refused_line : ℕ → ℕ
 refused_line number = cond (eqb number 9) 0 1
 
--- what a function answers of a list's beginning: the progress past its first line, or the refusal's number and the line refused
-abbrev pub as_begun : Result Progress NotBegun → Or (ℕ × ℕ) Progress
+-- what a function answers of a list's beginning: the progress past its first line, or the refusal's number and the progress that comes
+-- with it
+abbrev pub as_begun : Result Progress NotBegun → Or (ℕ × Progress) Progress
 as_begun (Ok progress) = right progress
-as_begun (Err refused) = wrong (refusal_number refused.refusal, refused.line)
+as_begun (Err refused) = wrong (refusal_number refused.refusal, refused.progress)
+
+-- the progress of a list that does not begin: the line refused, and "any other number in the answer is 0"
+abbrev pub stopped_at : ℕ → Progress
+stopped_at line = record { at = 0; line = line; book = fresh_book 0 0 }
 
 -- a list that does not begin, refused at this line
-abbrev pub not_begun : ℕ → ℕ → Or (ℕ × ℕ) Progress
-not_begun line number = wrong (number, line)
+abbrev pub not_begun : ℕ → ℕ → Or (ℕ × Progress) Progress
+not_begun line number = wrong (number, stopped_at line)
 
 -- one that begins is past its first line, and its first order stands on line 2
 abbrev pub begun_with : List ℕ → Book → Progress
 begun_with text book = record { at = past_line text 0; line = 2; book = book }
 
-abbrev pub begun_by : List ℕ → Read Book → Or (ℕ × ℕ) Progress
+abbrev pub begun_by : List ℕ → Read Book → Or (ℕ × Progress) Progress
 begun_by text (wrong number) = not_begun (refused_line number) number
 begun_by text (right book) = right (begun_with text book)
 

@@ -7,10 +7,10 @@ ghost use Rattle.ground.specs.Refusal.{wrong, right, refusal_number};
 ghost use Rattle.texts.specs.Lines.{line_at};
 ghost use Rattle.book.specs.Taking.{told, answer_of};
 ghost use Rattle.book.specs.declared.Answer.TheVariants as Answer;
-ghost use Rattle.orders.specs.Answers.{opening, decision, book_past, refused_line, as_begun, begun_by, order_in, Stepped};
+ghost use Rattle.orders.specs.Answers.{opening, decision, book_past, refused_line, stopped_at, as_begun, begun_by, order_in, Stepped};
 
 use book::{Answer, Book};
-use ground::{LONGEST_TEXT, Refusal, check};
+use ground::{FIRST_ORDER_LINE, LONGEST_TEXT, Refusal, check};
 use lines::{Order, read_heading, read_order};
 use texts::{line_at, line_end};
 
@@ -22,23 +22,30 @@ pub struct Progress {
     pub book: Book,
 }
 
-// A list that does not begin: why, and the number of the line refused.
+// A list that does not begin: why, and a progress with the line refused and 0 for every other number.
 #[derive(Clone, Copy, Debug, PartialEq, Eq)]
 pub struct NotBegun {
     pub refusal: Refusal,
-    pub line: u32,
+    pub progress: Progress,
 }
 
 // A text that is too long is refused before its first line, and else the first line is.
 impl From<Refusal> for NotBegun {
-    ghost from_gives = { λ refusal given. given ≡ record { refusal = refusal; line = refused_line (refusal_number refusal) } };
+    ghost from_gives = { λ refusal given. given ≡ record { refusal = refusal; progress = stopped_at (refused_line (refusal_number refusal)) } };
 
     fn from(refusal: Refusal) -> NotBegun {
         let line = match refusal {
             Refusal::TooLong => 0,
             _ => 1,
         };
-        NotBegun { refusal, line }
+        NotBegun {
+            refusal,
+            progress: Progress {
+                at: 0,
+                line,
+                book: Book::default(),
+            },
+        }
     }
 }
 
@@ -61,7 +68,7 @@ pub fn begin(text: &[u8]) -> Result<Progress, NotBegun>
     let opened = Book::open(heading.chambers, heading.run);
     Ok(Progress {
         at: line_end(text, 0),
-        line: 2,
+        line: FIRST_ORDER_LINE,
         book: opened.book,
     })
 }

@@ -120,11 +120,11 @@ module _ (list plan : List ℕ) where
   module _ (list_fits : fitting false list ≡ right tt) (plan_fits : fitting true plan ≡ right tt) where
     -- a fault of the first line
     pub first_line_faulty :
-        (number line : ℕ) → begun_by list (opening list) ≡ wrong (number, line) → (end : ℕ) → end ≡ past_line list 0
+        (number : ℕ) (progress : Progress) → begun_by list (opening list) ≡ wrong (number, progress) → (end : ℕ) → end ≡ past_line list 0
         → judged list plan ≡ wrong (fault_of number false 1 0 end)
     unfolding judged
-    first_line_faulty number line begun end past =
-        let refused = (begun_wrong list number line begun).0 in
+    first_line_faulty number progress begun end past =
+        let refused = (begun_wrong list number progress begun).0 in
         rw (past, list_fits, plan_fits, refused)
 
     -- else the orders and the plan

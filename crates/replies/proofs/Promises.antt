@@ -29,7 +29,6 @@ use Rattle.book.specs.Taking.{answer_of}
 use Rattle.book.specs.declared.Answer.{Answer}
 use Rattle.book.specs.declared.Answer.TheVariants.{Yes, No, Refused}
 use Rattle.orders.specs.Answers.{book_for, opening, order_lines, answers_from, book_after, decision, yeses, refused_line, as_begun, begun_by}
-use Rattle.orders.specs.History.{new_book}
 use Rattle.lines.specs.declared.Heading.{Heading}
 use Rattle.orders.specs.Meaning.{CleanList}
 use Rattle.orders.proofs.Promises.{clean_exactly, refused_empty}
@@ -205,11 +204,11 @@ module _ (κs : Lfts 1) (text : Bor (List ℕ)) (reply : Reply) (after : _) (beg
   pub begin_not_over : reply.over ≡ false
   begin_not_over = ap (λ (it : Reply). it.over) begun ∙ fresh (begun_by text.now (opening text.now))
     where
-      fresh : (list : Or (ℕ × ℕ) Progress) → (reply_from list).over ≡ false
+      fresh : (list : Or (ℕ × Progress) Progress) → (reply_from list).over ≡ false
       fresh (wrong refused) = refl
       fresh (right progress) = refl
 
-  -- the progress is that of `orders::begin`, or the refusal and the line are, with a book of every field 0
+  -- the progress is that of `orders::begin`, and so are the refusal and the progress that comes with it
   pub begin_as_list :
       (κ : Lfts 1) (list : Result Progress NotBegun) (exit : _) → begin_list.Learnt κ (text, tt) list exit
       → ((progress : Progress) → list ≡ Ok progress → reply ≡ record { refusal = None; progress = progress; over = false })
@@ -217,7 +216,7 @@ module _ (κs : Lfts 1) (text : Bor (List ℕ)) (reply : Reply) (after : _) (beg
       → reply
       ≡ record {
         refusal = Some (refusal_number refused.refusal);
-        progress = record { at = 0; line = refused.line; book = new_book 0 0 };
+        progress = refused.progress;
         over = false;
       })
   begin_as_list κ list exit learnt =

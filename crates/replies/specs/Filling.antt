@@ -5,7 +5,6 @@ use Rattle.ground.specs.Buffer.{onto}
 use Rattle.texts.specs.Lines.{line_at}
 use Rattle.lines.specs.Reading.{order_of}
 use Rattle.writer.specs.Line.{line_room}
-use Rattle.book.specs.Soundness.{fresh_book}
 use Rattle.book.specs.Taking.{answer_of}
 use Rattle.book.specs.declared.Answer.TheVariants.{Refused}
 use Rattle.orders.specs.Answers.{opening, decision, begun_by, progress_past}
@@ -19,10 +18,9 @@ abbrev pub bytes_in : Read (List ℕ) → List ℕ
 bytes_in (wrong number) = []
 bytes_in (right line) = line
 
--- the reply to a list that was begun, and so to a text, of which no line is written yet; one that does not begin has a book of zeros
-abbrev pub reply_from : Or (ℕ × ℕ) Progress → Reply
-reply_from (wrong refused) =
-    record { refusal = Some refused.0; progress = record { at = 0; line = refused.1; book = fresh_book 0 0 }; over = false }
+-- the reply to a list that was begun, and so to a text, of which no line is written yet
+abbrev pub reply_from : Or (ℕ × Progress) Progress → Reply
+reply_from (wrong refused) = record { refusal = Some refused.0; progress = refused.1; over = false }
 reply_from (right progress) = record { refusal = None; progress = progress; over = false }
 
 abbrev pub reply_begun : List ℕ → Reply

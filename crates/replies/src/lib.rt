@@ -12,7 +12,7 @@ ghost use Rattle.replies.specs.Replies.{sum_line, reply_written};
 ghost use Rattle.replies.specs.Filling.{bytes_in, reply_begun, line_due, past_line_due, may_go_on, Fills};
 ghost use Rattle.replies.specs.Steps.{answer_put, reply_put, sum_put, answer_room, LineBehind};
 
-use book::{Answer, Book};
+use book::Answer;
 use orders::Progress;
 use writer::{LINE_ROOM, Written, put_hour, put_number, put_word, write_line};
 
@@ -92,7 +92,7 @@ pub struct Filled {
     pub reply: Reply,
 }
 
-// The reply to a text, of which no line is written yet. A list that does not begin has a book with every field 0.
+// The reply to a text, of which no line is written yet.
 pub fn begin(text: &[u8]) -> Reply
     ensures { result ≡ reply_begun text.now }
 {
@@ -104,11 +104,7 @@ pub fn begin(text: &[u8]) -> Reply
         },
         Err(refused) => Reply {
             refusal: Some(refused.refusal.number()),
-            progress: Progress {
-                at: 0,
-                line: refused.line,
-                book: Book::default(),
-            },
+            progress: refused.progress,
             over: false,
         },
     }

@@ -23,9 +23,9 @@ pub returns-in-Err : goal.returns-in-Err
 returns-in-Err c =
     let a = c.args in
     let refused = c.in-Err.refused in
-    let begun : begun_by a.list.now (opening a.list.now) ≡ wrong (refusal_number refused.refusal, refused.line) = sym c.begin.ensures ∙ ap as_begun c.in-Err.is in
+    let begun : begun_by a.list.now (opening a.list.now) ≡ wrong (refusal_number refused.refusal, refused.progress) = sym c.begin.ensures ∙ ap as_begun c.in-Err.is in
     ap wrong c.fault_at.ensures
     ∙ rw c.number-number.ensures
     (sym
-    (first_line_faulty a.list.now a.plan.now (sym c.in_ok-fitting.ensures) (sym c.in_ok-fitting-2.ensures) (refusal_number refused.refusal) refused.line begun
+    (first_line_faulty a.list.now a.plan.now (sym c.in_ok-fitting.ensures) (sym c.in_ok-fitting-2.ensures) (refusal_number refused.refusal) refused.progress begun
     c.line_end.result c.line_end.ensures))
