@@ -32,7 +32,7 @@ pub const LAST_ORDER_LINE: u32 = MOST_ORDERS + 1;
 // Why something is refused. Each case has the paper's number.
 #[derive(Clone, Copy, Debug, PartialEq, Eq)]
 pub enum Refusal {
-    Misshapen,
+    Misshapen = 1,
     NotPlain,
     NotHour,
     OutOfRange,
@@ -41,7 +41,7 @@ pub enum Refusal {
     NoRoom,
     NotSound,
     TooLong,
-    Unlisted,
+    Unlisted = 11,
     Again,
     Early,
     Late,
@@ -55,22 +55,7 @@ impl Refusal {
     pub fn number(self) -> u32
         ensures { result ≡ refusal_number self }
     {
-        match self {
-            Refusal::Misshapen => 1,
-            Refusal::NotPlain => 2,
-            Refusal::NotHour => 3,
-            Refusal::OutOfRange => 4,
-            Refusal::BelowClock => 5,
-            Refusal::BookFull => 6,
-            Refusal::NoRoom => 7,
-            Refusal::NotSound => 8,
-            Refusal::TooLong => 9,
-            Refusal::Unlisted => 11,
-            Refusal::Again => 12,
-            Refusal::Early => 13,
-            Refusal::Late => 14,
-            Refusal::Overlapping => 15,
-        }
+        self as u32
     }
 }
 
