@@ -7,7 +7,9 @@ use mathlib.Core.List.{List, [], ◌∷◌, map}
 use lib.ListN.{length}
 use native.Mathlib.Omega.{arith}
 use contract.Lifetimes.{Lfts}
-use Rattle.ground.specs.Refusal.{Read, wrong, right}
+use Rattle.ground.specs.Refusal.{Read, wrong, right, refusal_number}
+use Rattle.ground.specs.declared.Refusal.{Refusal}
+use Rattle.ground.specs.declared.Refusal.TheVariants.{OutOfRange}
 use Rattle.ground.specs.Outcome.{Injective, Single}
 use Rattle.ground.proofs.Outcome.{single_value}
 use Rattle.book.specs.Soundness.{fresh_book, number_told, opened}
@@ -99,6 +101,10 @@ pub yes_named :
     → numbers ≡ chamber ∷ start ∷ []
 yes_named κs chamber start numbers after learnt = learnt
 
+-- the number told of an opening is the paper's of its refusal, and 0 where it is not refused
+pub number_told_exactly : (number_told None ≡ 0) × ((refusal : Refusal) → number_told (Some refusal) ≡ refusal_number refusal)
+number_told_exactly = (refl, λ refusal. refl)
+
 -- Opening a book with these numbers, and whatever comes of it.
 module _ (κs : Lfts 0) (chambers run : ℕ) (outcome : Opened) (after : _) (learnt : opening.Learnt κs (chambers, (run, tt)) outcome after) where
   -- 1b: it is refused by 4 exactly when chambers is not 1 to 8 or run not 1 to 9,999
@@ -108,6 +114,13 @@ module _ (κs : Lfts 0) (chambers run : ℕ) (outcome : Opened) (after : _) (lea
         λ e. ⊎_elim (λ p. absurd (omega (arith, ap (λ opened. number_told opened.refusal) p.1))) (λ p. p.0) (opened_either chambers run),
         λ out. ap (λ opened. number_told opened.refusal) (opened_outside chambers run out),
       )
+
+  -- and so of the refusal itself
+  pub opening_refused_exactly : (outcome.refusal ≡ Some OutOfRange) ↔ (Openable chambers run → ⊥)
+  opening_refused_exactly = (
+    λ e. opening_refused.0 (ap number_told e),
+    λ out. ap (λ opened. opened.refusal) (learnt ∙ opened_outside chambers run out),
+  )
 
   -- 1c: and then the book has every field 0
   pub opening_refused_zeros : number_told outcome.refusal ≡ 4 → Fresh 0 0 outcome.book
@@ -120,6 +133,13 @@ module _ (κs : Lfts 0) (chambers run : ℕ) (outcome : Opened) (after : _) (lea
         λ e. ⊎_elim (λ p. p.0) (λ p. absurd (omega (arith, ap (λ opened. number_told opened.refusal) p.1))) (opened_either chambers run),
         λ inside. ap (λ opened. number_told opened.refusal) (opened_within chambers run inside),
       )
+
+  -- and so of the refusal itself: there is none
+  pub opening_unrefused_exactly : (outcome.refusal ≡ None) ↔ Openable chambers run
+  opening_unrefused_exactly = (
+    λ e. opening_unrefused.0 (ap number_told e),
+    λ inside. ap (λ opened. opened.refusal) (learnt ∙ opened_within chambers run inside),
+  )
 
   pub opening_fresh : Openable chambers run → Fresh chambers run outcome.book
   opening_fresh inside = rw (learnt ∙ opened_within chambers run inside) (fresh_book_lem chambers run)

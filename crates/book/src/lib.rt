@@ -37,7 +37,8 @@ pub enum Answer {
     Refused(u32),
 }
 
-// The numbers of a yes by their names, zeros of any other answer: a law can name what a function gives, and no field of an enum's case.
+// The numbers of a yes by their names, zeros of any other answer: a law (`yes_named`) can name what a function gives, and no field of an
+// enum's case.
 fn yes_numbers(answer: Answer) -> [u32; 2]
     ensures { result ≡ (told answer).chamber ∷ (told answer).start ∷ [] }
 {
@@ -55,7 +56,7 @@ pub struct Taken {
 }
 
 // A book that was opened, and why it is refused, if it is. They stand side by side and are no Result, since the paper wants a book of a
-// refused opening too, with every field 0.
+// refused opening too, with every field 0 (`opening_refused_zeros`).
 #[derive(Clone, Copy, Debug, PartialEq, Eq)]
 pub struct Opened {
     pub refusal: Option<Refusal>,

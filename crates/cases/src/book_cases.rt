@@ -11,30 +11,17 @@ pub(crate) fn open([chambers, run]: [u32; 2]) {
 
 // The numbers are those of a book, with the free hours of eight chambers, and then an order's hours.
 pub(crate) fn take(numbers: [u32; 15]) {
-    let [
-        chambers,
-        run,
-        clock,
-        taken,
-        kept,
-        first,
-        second,
-        third,
-        fourth,
-        fifth,
-        sixth,
-        seventh,
-        eighth,
-        ready,
-        due,
-    ] = numbers;
+    let [chambers, run, clock, taken, kept, ..] = numbers;
+    let [.., ready, due] = numbers;
+    let mut free = [0; 8];
+    free.copy_from_slice(&numbers[5..13]);
     let book = Book {
         chambers,
         run,
         clock,
         taken,
         kept,
-        free: [first, second, third, fourth, fifth, sixth, seventh, eighth],
+        free,
     };
     let taken = book.take(ready, due);
     answered(taken.answer);

@@ -1,7 +1,7 @@
 // A word of a case as a text: its bytes, with each escape undone, put into a lent buffer.
 // Any bytes may come; a word with a byte or an escape that stands for nothing, or with
 // more bytes than there is room, is no text. Assumes nothing.
-ghost use Rattle.std.specs.Prelude.{◌≡◌, ◌<◌, IfSome, length};
+ghost use Rattle.std.specs.Prelude.{◌<◌, IfSome, length};
 
 use crate::words;
 

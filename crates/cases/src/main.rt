@@ -1,7 +1,6 @@
 // The cases program: reads a case file from standard input, and writes each of its lines with what comes of it.
-// A line that is empty or starts with # is no case and is only written. Any bytes may
-// come; a case that cannot be read is answered `unread`,
-// and a last line that is not ended is taken as if it were. Assumes nothing.
+// A line that is empty or starts with # is no case and is only written. Any bytes may come; a case that cannot be read is answered
+// `unread`, and a last line that is not ended is taken as if it were. Assumes nothing.
 #![tactic(auto)]
 
 mod book_cases;

@@ -68,7 +68,8 @@ pub(crate) fn line(text: &[u8], at: u32) {
     results::number(texts::walked_place(text, at) as u64);
 }
 
-// The lines that a walk through a text hands out, and its place.
+// The lines that a walk through a text hands out, and its place. By the place alone: what programs walk by (docs/FORMS.md) are
+// `walked_line` and `walked_place`, and these cases are to run them.
 #[derive(Drop)]
 struct WalkedLines<'a> {
     text: &'a [u8],

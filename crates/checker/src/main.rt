@@ -4,7 +4,7 @@
 // to its end is unread.
 #![tactic(auto)]
 
-ghost use Rattle.std.specs.Prelude.{◌≤◌, length, IfSome};
+ghost use Rattle.std.specs.Prelude.{◌≤◌, length};
 
 use ground::LONGEST_TEXT;
 use judgements::write_checked;
