@@ -22,7 +22,7 @@ pub struct Heading {
 }
 
 // An order of a list.
-#[derive(Clone, Copy, Debug, PartialEq, Eq)]
+#[derive(Clone, Copy, Debug, Default, PartialEq, Eq)]
 pub struct Order {
     pub grower: u32,
     pub ready: u32,

@@ -2,11 +2,12 @@
 // Any bytes may come. Assumes nothing.
 #![tactic(auto)]
 
-ghost use Rattle.std.specs.Prelude.{◌≡◌, [], ◌+◌, ◌≤◌, length, drop};
+ghost use Rattle.std.specs.Prelude.{◌≡◌, [], ◌+◌, ◌≤◌, length};
 ghost use Rattle.ground.specs.Refusal.{right, as_read};
 ghost use Rattle.ground.specs.Limits.{most_chambers, most_orders, longest_text};
 ghost use Rattle.orders.specs.Answers.{opening, begun_with};
 ghost use Rattle.plans.specs.Judging.{fitting, loads_counted, both_judged, judged, as_judged, shown, ShownIn};
+ghost use Rattle.plans.specs.Meaning.{fault_of};
 ghost use Rattle.plans.specs.Steps.{orders_left, OrdersAre, orders_from, load_noted};
 
 use book::{Answer, Book};
@@ -36,9 +37,9 @@ pub struct Fault {
 // Right with the number of plan lines, or the first fault.
 pub type Judgement = Result<u32, Fault>;
 
-// The fault of a line by its parts.
-fn fault_at(number: u32, plan: bool, line: u32, from: usize, to: usize) -> Fault
-    ensures { result ≡ record { number = number; plan = plan; line = line; from = from; to = to } }
+// A fault by its parts.
+fn fault_of(number: u32, plan: bool, line: u32, from: usize, to: usize) -> Fault
+    ensures { result ≡ fault_of number plan line from to }
 {
     Fault {
         number,
@@ -54,11 +55,11 @@ fn fitting(text: &[u8], plan: bool) -> Result<(), Fault>
     ensures { as_judged result ≡ fitting plan text.now }
 {
     let fits = text.len() <= LONGEST_TEXT;
-    check(fits, Refusal::TooLong).map_err(|refusal| fault_at(refusal.number(), plan, 0, 0, 0))
+    check(fits, Refusal::TooLong).map_err(|refusal| fault_of(refusal.number(), plan, 0, 0, 0))
 }
 
 // The orders of a list that has begun: their hours are stored at the front of two buffers, and how many they are is answered. The loop goes
-// from line to line by the progress, which says where the next one starts.
+// from line to line by the progress, which says where the next one starts. The buffers are fixed ones: see `judge_with`.
 #[tactic(auto, using(crate::proofs::Orders::gone_next, crate::proofs::Orders::further))]
 fn read_orders(
     list: &[u8],
@@ -77,7 +78,7 @@ fn read_orders(
         let step = next(list, progress);
         let past = step.progress;
         if let Answer::Refused(number) = step.answer {
-            return Err(fault_at(number, false, progress.line, progress.at, past.at));
+            return Err(fault_of(number, false, progress.line, progress.at, past.at));
         }
         readies[count] = step.order.ready;
         dues[count] = step.order.due;
@@ -104,7 +105,7 @@ fn note_load(
 }
 
 // A plan line that was gone through: the start of its load, and the place of the plan line before it in its chamber.
-#[derive(Clone, Copy)]
+#[derive(Clone, Copy, Default)]
 struct Passed {
     start: u32,
     before: Option<usize>,
@@ -121,17 +122,15 @@ fn judge_plan(plan: &[u8], book: Book, readies: &[u32], dues: &[u32]) -> Judgeme
 {
     let hold = book.hold();
     let mut lines = [0u32; ORDERS];
-    let mut passed = [Passed {
-        start: 0,
-        before: None,
-    }; ORDERS];
+    let mut passed = [Passed::default(); ORDERS];
     let mut lasts = [None; CHAMBERS];
     let mut line: u32 = 1;
     let mut at: usize = 0;
     'plan: while at < plan.len() {
         let end = line_end(plan, at);
-        let noted = note_load(&plan[at..end], book, readies, dues, &lines);
-        let load = noted.map_err(|refusal| fault_at(refusal.number(), true, line, at, end))?;
+        let load = note_load(&plan[at..end], book, readies, dues, &lines).map_err(
+            |refusal| fault_of(refusal.number(), true, line, at, end),
+        )?;
         let chamber = (load.chamber - 1) as usize;
         let last = lasts[chamber];
         let mut earlier = last;
@@ -157,7 +156,7 @@ fn judge_plan(plan: &[u8], book: Book, readies: &[u32], dues: &[u32]) -> Judgeme
         return Ok(line - 1);
     }
     let number = Refusal::Overlapping.number();
-    Err(fault_at(number, true, line, at, line_end(plan, at)))
+    Err(fault_of(number, true, line, at, line_end(plan, at)))
 }
 
 // The list that has begun so, and the plan. The hours are in two buffers, as `load_refusal` takes them, and fixed ones, since `judge` cannot
@@ -183,7 +182,7 @@ pub fn judge(list: &[u8], plan: &[u8]) -> Judgement
         Ok(begun) => judge_with(list, plan, begun),
         Err(refused) => {
             let number = refused.refusal.number();
-            Err(fault_at(number, false, 1, 0, line_end(list, 0)))
+            Err(fault_of(number, false, 1, 0, line_end(list, 0)))
         }
     }
 }
@@ -193,10 +192,6 @@ pub fn line_at_fault<'a>(list: &'a [u8], plan: &'a [u8], fault: Fault) -> &'a [u
     ensures result_value { result.now ≡ shown fault list.now plan.now }
     ensures shown_in { ShownIn fault list.entry plan.entry result }
 {
-    let from = fault.from;
-    let to = fault.to;
-    if fault.plan {
-        return part(plan, from, to);
-    }
-    part(list, from, to)
+    let text = if fault.plan { plan } else { list };
+    part(text, fault.from, fault.to)
 }

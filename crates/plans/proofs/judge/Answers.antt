@@ -24,7 +24,7 @@ returns-in-Err c =
     let a = c.args in
     let refused = c.in-Err.refused in
     let begun : begun_by a.list.now (opening a.list.now) ≡ wrong (refusal_number refused.refusal, refused.progress) = sym c.begin.ensures ∙ ap as_begun c.in-Err.is in
-    ap wrong c.fault_at.ensures
+    ap wrong c.fault_of.ensures
     ∙ rw c.number-number.ensures
     (sym
     (first_line_faulty a.list.now a.plan.now (sym c.in_ok-fitting.ensures) (sym c.in_ok-fitting-2.ensures) (refusal_number refused.refusal) refused.progress begun

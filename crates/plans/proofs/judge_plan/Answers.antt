@@ -40,7 +40,7 @@ noting c =
       paired = c.requires.readies_len_bound.1;
       most = c.requires.readies_len_bound.0;
       chambers = c.requires.chambers_le_most_chambers;
-      noted = noted_line _ _ _ _ _ _ _ _ _ c.line_end-end.ensures c.note_load-noted.ensures ∙ (let same : c.note_load-noted.result ≡ Ok c.in_ok-load.load = search rules in ap as_read same);
+      noted = noted_line _ _ _ _ _ _ _ _ _ c.line_end-end.ensures c.note_load.ensures ∙ (let same : c.note_load.result ≡ Ok c.in_ok-load.load = search rules in ap as_read same);
     }
 
 -- there is room for the load, and for the line of its order
@@ -77,14 +77,14 @@ made_of (Err refusal) out one Made cases failed = (refusal, refl, rw failed at c
 pub returns-in_err-load : goal.returns-in_err-load
 returns-in_err-load c =
     let made = made_of _ _ c.in_err-load.field-0.0 _ c.map_err.ensures.cases c.in_err-load.was in
-    let refused : c.note_load-noted.result ≡ Err made.0 = made.1 in
+    let refused : c.note_load.result ≡ Err made.0 = made.1 in
     let fault : c.in_err-load.field-0.0 ≡ fault_of (refusal_number made.0) true c.plan.line c.plan.at c.line_end-end.result = search rules in
     let out : c.from_residual.result ≡ Err c.in_err-load.field-0.0 = search rules in
     ap as_judged out
     ∙ ap wrong fault
     ∙ sym
     (reached_refused c.plan.invariant c.requires.readies_len_bound.1 c.plan-test.true (refusal_number made.0) c.line_end-end.result c.line_end-end.ensures
-    (noted_line _ _ _ _ _ _ _ _ _ c.line_end-end.ensures c.note_load-noted.ensures ∙ ap as_read refused))
+    (noted_line _ _ _ _ _ _ _ _ _ c.line_end-end.ensures c.note_load.ensures ∙ ap as_read refused))
 
 pub overflow_sub-chamber : goal.overflow_sub-chamber
 overflow_sub-chamber c = (load_chamber (noting (goal.at.overflow_sub-chamber c).In_ok-load)).0
@@ -150,10 +150,10 @@ returns c =
             most = pre.readies_len_bound.0;
             chambers = pre.chambers_le_most_chambers;
             noted =
-                noted_line _ _ _ _ _ _ _ _ _ w.line_end-end.ensures w.note_load-noted.ensures
-                ∙ (let same : w.note_load-noted.result ≡ Ok w.in_ok-load.load = search rules in ap as_read same);
+                noted_line _ _ _ _ _ _ _ _ _ w.line_end-end.ensures w.note_load.ensures
+                ∙ (let same : w.note_load.result ≡ Ok w.in_ok-load.load = search rules in ap as_read same);
           } in
-          ap wrong c.fault_at.ensures
+          ap wrong c.fault_of.ensures
           ∙ rw (c.number-number.ensures, c.line_end.ensures)
           (sym
           (passed_overlap c.plan.passed c.plan.lasts n _ w.loop-earlier.earlier w.in-Some.there c.hold-hold.ensures w.in-Some.is w.loop-earlier.invariant (sym w.overlap.ensures ∙ w.if-overlap.true)))

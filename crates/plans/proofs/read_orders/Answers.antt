@@ -16,7 +16,7 @@ room_at c =
 pub returns-in-Refused : goal.returns-in-Refused
 returns-in-Refused c =
     gone_fault c.loop-progress.invariant c.next-step.result c.next-step.ensures c.loop-progress-test.true c.in-Refused.number c.in-Refused.is
-    ∙ ap wrong (sym c.fault_at.ensures)
+    ∙ ap wrong (sym c.fault_of.ensures)
 
 pub bounds-readies-count : goal.bounds-readies-count
 bounds-readies-count c = omega (arith, room_at c, c.loop-progress.invariant.sized.0)
