@@ -18,14 +18,14 @@ fn offered(ready: u32, due: u32, run: u32, chamber: u32, free: u32) -> Option<Of
     ensures { result ≡ offer ready due run chamber free }
 {
     let start = free.max(ready);
-    if start as u64 + run as u64 <= due as u64 {
+    if u64::from(start) + u64::from(run) <= u64::from(due) {
         Some(Offer { chamber, start })
     } else {
         None
     }
 }
 
-// The later start of two offers; the first where they are equal.
+// The offer with the later start; the first where they are equal.
 fn fuller(one: Offer, other: Offer) -> Offer
     ensures { result ≡ fuller one other }
 {
@@ -33,6 +33,7 @@ fn fuller(one: Offer, other: Offer) -> Offer
 }
 
 // The choice among so many chambers, the first of them chamber 1, with these free hours; none where no chamber fits.
+// Ready and due are two numbers, as callers give them (`Book::take`, `best_fit_single`); an `Order` would ask for a grower.
 pub fn best_fit(ready: u32, due: u32, run: u32, hours: &[u32], count: u32) -> Option<Offer>
     ensures { result ≡ best_fit ready due run 1 (take count hours.now) }
 {

@@ -5,10 +5,9 @@
 ghost use Rattle.std.specs.Prelude.{◌≡◌, ◌<◌, ◌≤◌, min, unwrap_or, IfSome, IfNone};
 ghost use Rattle.texts.specs.Meaning.{LiesAt};
 ghost use Rattle.fields.specs.Fields.{same_bytes};
-ghost use Rattle.fields.specs.Cutting.{most_counted, most_fields, one_field_more};
-ghost use Rattle.fields.specs.Cutting.{cut_of, end_of, start_of, field_at, field_start};
+ghost use Rattle.fields.specs.Cutting.{most_counted, most_fields, one_field_more, cut_of, end_of, start_of, field_at, field_start};
 
-use classes::Class;
+use classes::{Class, class_of};
 use texts::part;
 
 // How many ends a cut keeps; further fields are counted only.
@@ -29,7 +28,7 @@ const NO_CUT: Cut = Cut {
 };
 
 impl Cut {
-    // One field more, which ends at a place.
+    // One field more, which ends at a place. By an index: of a write through `get_mut` the library does not say what the array is then.
     fn with_end(mut self, at: usize) -> Cut
         requires { self.count < most_counted }
         ensures { result ≡ one_field_more self at }
@@ -75,7 +74,7 @@ pub fn cut_line(line: &[u8]) -> Cut
 {
     let mut found = NO_CUT;
     for (at, byte) in line.iter().enumerate() {
-        match classes::class_of(*byte) {
+        match class_of(*byte) {
             Class::Tab => found = found.with_end(at),
             Class::LineEnd => {
                 let alone = at + 1 == line.len();

@@ -5,7 +5,7 @@
 ghost use Rattle.std.specs.Prelude.{◌≡◌};
 ghost use Rattle.ground.specs.Refusal.{as_read};
 ghost use Rattle.classes.specs.Classes.{comma};
-ghost use Rattle.hours.specs.Reading.{next, scanned, in_hundredths, ended, hour_of, ended_plain, plain_of};
+ghost use Rattle.hours.specs.Reading.{next, scanned, in_hundredths, ended, hour_of, plain_of};
 
 use classes::{Class, class_of};
 use ground::{Refusal, check};
@@ -30,9 +30,9 @@ fn next(stage: Stage, class: Class) -> Stage
     ensures { result ≡ next stage class }
 {
     match (stage, class) {
-        (Stage::Start, Class::Digit(digit)) => Stage::Whole(digit as u16),
+        (Stage::Start, Class::Digit(digit)) => Stage::Whole(u16::from(digit)),
         (Stage::Whole(whole @ 1..=999), Class::Digit(digit)) => {
-            Stage::Whole(whole * 10 + digit as u16)
+            Stage::Whole(whole * 10 + u16::from(digit))
         }
         (Stage::Whole(whole), Class::Mark) => Stage::Marked(whole),
         (Stage::Marked(whole), Class::Digit(tenth)) => Stage::Tenth(whole, tenth),
@@ -57,7 +57,7 @@ fn scan(field: &[u8]) -> Stage
 fn in_hundredths(whole: u16, tenth: u8, hundredth: u8) -> u32
     ensures { result ≡ in_hundredths whole tenth hundredth }
 {
-    whole as u32 * 100 + tenth as u32 * 10 + hundredth as u32
+    u32::from(whole) * 100 + u32::from(tenth) * 10 + u32::from(hundredth)
 }
 
 // What has been read when the field ends at this stage: one digit after the mark means tenths.
@@ -85,20 +85,13 @@ pub fn read_hour(field: &[u8]) -> Result<u32, Refusal>
     ended(scan(copy))
 }
 
-// What has been read as a plain number when the field ends at this stage: a whole part with nothing behind it.
-fn ended_plain(stage: Stage) -> Result<u32, Refusal>
-    ensures { as_read result ≡ ended_plain stage }
-{
-    match stage {
-        Stage::Whole(whole) => Ok(whole as u32),
-        _ => Err(Refusal::NotPlain),
-    }
-}
-
-// The number that a field spells as a plain number, or the refusal that it is none.
-#[tactic(auto, unfolding(crate::specs::Reading::plain_of))]
+// The number that a field spells as a plain number, a whole part with nothing behind it, or the refusal that it is none.
+#[tactic(auto, unfolding(crate::specs::Reading::plain_of, crate::specs::Reading::ended_plain))]
 pub fn read_plain(field: &[u8]) -> Result<u32, Refusal>
     ensures { as_read result ≡ plain_of field.now }
 {
-    ended_plain(scan(field))
+    match scan(field) {
+        Stage::Whole(whole) => Ok(u32::from(whole)),
+        _ => Err(Refusal::NotPlain),
+    }
 }

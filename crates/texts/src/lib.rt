@@ -32,6 +32,7 @@ pub fn part<'a>(text: &'a [u8], from: usize, to: usize) -> &'a [u8]
 }
 
 // The line that starts at a place, its end included where there is one; empty where none is left.
+// `line_at` and `walked_line` say the same of two callers; both are public (docs/FUNCTIONS.md).
 #[tactic(auto, using(crate::proofs::Lines::part_is))]
 pub fn line_at<'a>(text: &'a [u8], at: usize) -> &'a [u8]
     ensures result_value { result.now ≡ line_at text.now at }
@@ -42,14 +43,14 @@ pub fn line_at<'a>(text: &'a [u8], at: usize) -> &'a [u8]
 }
 
 // A walk through a text: the text, and the place reached. It goes on from whatever place it holds.
-#[derive(Clone, Copy)]
+#[derive(Clone, Copy, Debug, PartialEq, Eq)]
 pub struct Walk<'a> {
     pub text: &'a [u8],
     pub at: usize,
 }
 
 // A line that was handed out, empty where none is left, and the walk moved past it.
-#[derive(Clone, Copy)]
+#[derive(Clone, Copy, Debug, PartialEq, Eq)]
 pub struct Handed<'a> {
     pub line: &'a [u8],
     pub walk: Walk<'a>,
