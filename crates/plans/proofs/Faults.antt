@@ -6,6 +6,8 @@ use mathlib.Core.Logic.{◌↔◌, ◌⊎◌, inl, inr, ⊎_elim}
 use mathlib.Core.List.{List}
 use lib.ListN.{length}
 use native.Mathlib.Omega.{arith}
+use Rattle.std.proofs.Common.{Result, Ok, Err}
+use Rattle.std.specs.Result.{MatchResult, IsErrAnd}
 use Rattle.ground.specs.Refusal.{wrong}
 use Rattle.ground.specs.Limits.{longest_text}
 use Rattle.ground.proofs.Tests.{never_both}
@@ -81,3 +83,11 @@ module _ (list plan : List ℕ) where
   pub nine_only :
       (fault : Fault) → judged list plan ≡ wrong fault → fault.number ≡ 9 → (fault ≡ fault_of 9 false 0 0 0) ⊎ (fault ≡ fault_of 9 true 0 0 0)
   nine_only fault e nine = ⊎_elim (λ p. inl p.1) (λ p. inr p.2) (nine_long ((fault_exactly list plan fault).0 e) nine)
+
+-- an error that was made of another is that other's
+pub made_of :
+    {Known Why : Type 0} (given : Result Known Why) (out : Result Known Fault) (one : Fault) (Made : Why → Fault → Type 0)
+    → MatchResult given (λ known. out ≡ Ok known) (λ why. IsErrAnd out (Made why)) → out ≡ Err one
+    → (why : Why) × (given ≡ Err why) × Made why one
+made_of (Ok known) out one Made cases failed = absurd (cc)
+made_of (Err why) out one Made cases failed = (why, refl, rw failed at cases)

@@ -178,13 +178,11 @@ pub fn judge(list: &[u8], plan: &[u8]) -> Judgement
 {
     fitting(list, false)?;
     fitting(plan, true)?;
-    match begin(list) {
-        Ok(begun) => judge_with(list, plan, begun),
-        Err(refused) => {
-            let number = refused.refusal.number();
-            Err(fault_of(number, false, 1, 0, line_end(list, 0)))
-        }
-    }
+    let begun = begin(list).map_err(|refused| {
+        let number = refused.refusal.number();
+        fault_of(number, false, 1, 0, line_end(list, 0))
+    })?;
+    judge_with(list, plan, begun)
 }
 
 // The line at fault, as a part of the text that it stands in.

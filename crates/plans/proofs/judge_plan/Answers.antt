@@ -5,11 +5,7 @@ use Prim.Native.Nat.{◌≤◌, ◌<◌}
 use mathlib.Core.Path.{◌≡◌, refl, sym, ap, ◌∙◌}
 use lib.ListN.{length}
 use native.Mathlib.Omega.{arith}
-use Rattle.std.proofs.Common.{Result, Ok, Err, rules}
-use Rattle.std.specs.Result.{MatchResult, IsErrAnd}
-use Rattle.lines.specs.declared.Load.{Load}
-use Rattle.plans.specs.declared.Fault.{Fault}
-use Rattle.ground.specs.declared.Refusal.{Refusal}
+use Rattle.std.proofs.Common.{Ok, Err, rules}
 use Rattle.ground.specs.Refusal.{wrong, refusal_number, as_read}
 use Rattle.ground.specs.Limits.{most_chambers, most_orders}
 use Rattle.texts.proofs.WholeText.{moves_on, ends_inside}
@@ -18,6 +14,7 @@ use Rattle.std.proofs.Common.{true}
 use Rattle.plans.specs.Judging.{as_judged}
 use Rattle.plans.specs.Meaning.{fault_of}
 use Rattle.plans.specs.Steps.{line_at_place, starts_of, befores_of, lasts_of}
+use Rattle.plans.proofs.Faults.{made_of}
 use Rattle.plans.proofs.Planning.{noted_line, Noting, load_chamber, reached_room, order_room, reached_top, reached_end, reached_refused, reached_apart}
 use Rattle.plans.proofs.Passing.{none_left, search_top, passed_next, there_room, before_falls, search_on, passed_overlap}
 use Rattle.plans.proofs.judge_plan.Goals as goal
@@ -65,14 +62,6 @@ slice_bounds-note_load-start c = omega (arith, (inside (goal.at.slice_bounds-not
 
 pub slice_bounds-note_load-end : goal.slice_bounds-note_load-end
 slice_bounds-note_load-end c = omega (arith, (inside (goal.at.slice_bounds-note_load-end c).After-line_end-end).1)
-
--- an error that was made of another is that other's
-made_of :
-    (given : Result Load Refusal) (out : Result Load Fault) (one : Fault) (Made : Refusal → Fault → Type 0)
-    → MatchResult given (λ load. out ≡ Ok load) (λ refusal. IsErrAnd out (Made refusal)) → out ≡ Err one
-    → (refusal : Refusal) × (given ≡ Err refusal) × Made refusal one
-made_of (Ok load) out one Made cases failed = absurd (cc)
-made_of (Err refusal) out one Made cases failed = (refusal, refl, rw failed at cases)
 
 pub returns-in_err-load : goal.returns-in_err-load
 returns-in_err-load c =
