@@ -2,17 +2,16 @@
 // Any judgement, any texts and any buffer may come. Assumes nothing.
 #![tactic(auto)]
 
-ghost use Rattle.std.specs.Prelude.{◌≡◌, ◌≤◌, length, Ok, Err};
+ghost use Rattle.std.specs.Prelude.{◌≡◌, ◌≤◌, length};
 ghost use Rattle.ground.specs.Refusal.{right};
 ghost use Rattle.ground.specs.Buffer.{fitted, length_of, buffer_after};
-ghost use Rattle.fields.specs.Fields.{tab};
 ghost use Rattle.writer.specs.Writing.{as_length};
-ghost use Rattle.writer.specs.Line.{place_after, held_after, line_room};
+ghost use Rattle.writer.specs.Line.{line_room};
 ghost use Rattle.writer.specs.Steps.{Comes, bytes_of_all};
 ghost use Rattle.judgements.specs.Judgements.{text_word, judgement_line, checked_line};
 ghost use Rattle.judgements.specs.Steps.{judgement_put};
 
-use plans::{Fault, Judgement, judge};
+use plans::{Judgement, judge};
 use writer::{LINE_ROOM, Written, put_number, put_word, write_line};
 
 // The word for the text at fault.
@@ -23,38 +22,27 @@ fn text_word(plan: bool) -> &'static [u8]
     if plan { b"plan" } else { b"orders" }
 }
 
-// Puts the line of a right plan at the front of a buffer. It is short enough for the room of a line.
-fn put_right(count: u32, own: &mut [u8]) -> Written
-    ensures comes { Comes (right 0) (judgement_put (Ok count)) own.old (as_length result) own.new }
-    ensures count_bound { bytes_of_all (judgement_put (Ok count)) ≤ line_room }
-{
-    let worded = put_word(Ok(0), b"right", b'\t', own);
-    put_number(worded, count, b'\n', own)
-}
-
-// Puts the line of a fault at the front of a buffer. It is short enough for the room of a line.
-fn put_fault(fault: Fault, own: &mut [u8]) -> Written
-    ensures comes { Comes (right 0) (judgement_put (Err fault)) own.old (as_length result) own.new }
-    ensures fault_bound { bytes_of_all (judgement_put (Err fault)) ≤ line_room }
-{
-    let worded = put_word(Ok(0), b"fault", b'\t', own);
-    let numbered = put_number(worded, fault.number, b'\t', own);
-    let named = put_word(numbered, text_word(fault.plan), b'\t', own);
-    put_number(named, fault.line, b'\n', own)
-}
-
 // Puts the line of a judgement at the front of a buffer. It is short enough for the room of a line.
 fn put_judgement(judgement: Judgement, own: &mut [u8]) -> Written
     ensures comes { Comes (right 0) (judgement_put judgement) own.old (as_length result) own.new }
     ensures judgement_bound { bytes_of_all (judgement_put judgement) ≤ line_room }
 {
     match judgement {
-        Ok(count) => put_right(count, own),
-        Err(fault) => put_fault(fault, own),
+        Ok(count) => {
+            let worded = put_word(Ok(0), b"right", b'\t', own);
+            put_number(worded, count, b'\n', own)
+        }
+        Err(fault) => {
+            let worded = put_word(Ok(0), b"fault", b'\t', own);
+            let numbered = put_number(worded, fault.number, b'\t', own);
+            let named = put_word(numbered, text_word(fault.plan), b'\t', own);
+            put_number(named, fault.line, b'\n', own)
+        }
     }
 }
 
-// Writes the line of a judgement: refusal 7 where the buffer is too short.
+// Writes the line of a judgement: refusal 7 where the buffer is too short. Its steps are those of `write_answer` of replies: one function over
+// what puts the fields would carry that closure's contract and be no plainer.
 pub fn write_judgement(judgement: Judgement, buffer: &mut [u8]) -> Written
     ensures result_value { as_length result ≡ length_of (fitted buffer.old (right (judgement_line judgement))) }
     ensures buffer_after { buffer.new

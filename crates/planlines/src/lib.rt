@@ -11,6 +11,8 @@ use ground::{FIRST_ORDER_LINE, LAST_ORDER_LINE, MOST_CHAMBERS, Refusal, check, w
 use writer::{LINE_ROOM, Written, put_hour, put_number, write_line};
 
 // Writes a plan line: refusal 4 where a number is out of its range, then 7 where the buffer is too short.
+// Three numbers and no `Load`: callers give them so (`write_plan_line_single`). Its last steps are those of `write_answer` of replies: one
+// function over what puts the fields would carry that closure's contract and be no plainer.
 #[tactic(auto, unfolding(ground::specs::Buffer::fitted, crate::specs::Writing::plan_written))]
 pub fn write_plan_line(order: u32, chamber: u32, start: u32, buffer: &mut [u8]) -> Written
     ensures result_value { as_length result ≡ length_of (fitted buffer.old (plan_written order chamber start)) }

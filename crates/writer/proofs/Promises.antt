@@ -170,7 +170,7 @@ module _ (κs : Lfts 1) (written : Result ℕ ℕ) (buffer : _) (text : _) (afte
 
   -- and it lies at the buffer's front
   pub text_lies : LiesAt text buffer 0
-  text_lies = (learnt.1.0, omega (arith, learnt.1.1))
+  text_lies = learnt.1
 
 -- what was written, to whatever buffer it fits, is the text that stands in it
 pub written_stands :

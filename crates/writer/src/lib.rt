@@ -2,23 +2,26 @@
 // Any bytes, any numbers, any place and any buffer may come. Assumes nothing.
 #![tactic(auto)]
 
-ghost use Rattle.std.specs.Prelude.{◌≡◌, ℕ, List, ◌∷◌, ◌++◌, ◌-◌, ◌/◌, ◌≤◌, length};
+ghost use Rattle.std.specs.Prelude.{◌≡◌, ℕ, List, length};
 ghost use Rattle.std.specs.Fn.{FnOnceTakesAtMut, FnOnceReturnsAtMut};
 ghost use Rattle.ground.specs.Refusal.{right};
 ghost use Rattle.ground.specs.Digits.{spelled, last_digits};
 ghost use Rattle.ground.specs.Buffer.{fitted, length_of, buffer_after};
+ghost use Rattle.texts.specs.Meaning.{LiesAt};
 ghost use Rattle.classes.specs.Classes.{comma};
-ghost use Rattle.writer.specs.Writing.{hour_text, hour_written, as_length, front_of, text_in};
+ghost use Rattle.writer.specs.Writing.{hour_text, hour_written, as_length, text_in};
 ghost use Rattle.writer.specs.Line.{place_after, held_after, line_in};
 ghost use Rattle.writer.specs.Steps.{Puts};
 
 use ground::{LAST_HOUR, Refusal, check};
+use texts::part;
 
 // Room enough for any line that a program prints or a plan has: an array of so many bytes, since a writer that asks for memory could fail.
 pub const LINE_ROOM: usize = 48;
 
 // What a writing answers: the length of what stands at the buffer's front now, or the refusal's number.
-// The error is a number, since a line that was refused by any number stays refused by it.
+// The error is a number, since a line that was refused by any number stays refused by it. The length stands beside the buffer, which is the
+// caller's: nothing here asks for memory.
 pub type Written = Result<usize, u32>;
 
 // How many digits a number is spelled with.
@@ -65,6 +68,7 @@ fn fill_hour(hour: u32, buffer: &mut [u8])
 }
 
 // Writes an hour with two digits after the comma: refusal 4 above the last hour, then 7 where the buffer is too short.
+// What is answered and what is held then are two clauses, here and in each public writing below: laws and callers cite them apart.
 #[tactic(auto, unfolding(ground::specs::Buffer::fitted, ground::specs::Buffer::onto, crate::specs::Writing::hour_written))]
 pub fn write_hour(hour: u32, buffer: &mut [u8]) -> Written
     ensures result_value { as_length result ≡ length_of (fitted buffer.old (hour_written comma hour)) }
@@ -99,7 +103,7 @@ fn put_field<F: FnOnce(&mut [u8])>(
 }
 
 // Puts a word and the byte that stops it behind a line so far: refusal 7 where they have no room.
-// A line that was refused stays refused.
+// A line that was refused stays refused. The line so far and its buffer stay two parameters, here and in the three below: callers hold both.
 #[tactic(auto, unfolding(crate::specs::Line::front_after))]
 pub fn put_word(so_far: Written, word: &[u8], stop: u8, buffer: &mut [u8]) -> Written
     ensures result_value { as_length result ≡ place_after (as_length so_far) (right word.now) stop buffer.old }
@@ -152,14 +156,13 @@ pub fn write_line(line: Written, own: &[u8], buffer: &mut [u8]) -> Written
 }
 
 // The text that was written to a buffer, as a part of that buffer from its front on; nothing where the writing was refused.
-#[tactic(auto, unfolding(crate::specs::Writing::text_in, crate::specs::Writing::front_of))]
+#[tactic(auto, unfolding(crate::specs::Writing::text_in, crate::specs::Writing::front_of, texts::specs::Lines::part_of, texts::specs::Lines::part_start))]
 pub fn text_in<'a>(written: Written, buffer: &'a [u8]) -> &'a [u8]
     ensures result_value { result.now ≡ text_in written buffer.now }
-    ensures ref_ptr_value { (result.ref_ptr.0 ≡ buffer.entry.ref_ptr.0) × (result.ref_ptr.1 ≡ buffer.entry.ref_ptr.1) }
+    ensures lies_at { LiesAt result buffer.entry 0 }
 {
-    // By a test: the library says which bytes `get` gives, and not where they lie, as `ref_ptr_value` does.
     match written {
-        Ok(length) if length <= buffer.len() => &buffer[..length],
-        _ => &buffer[..0],
+        Ok(length) => part(buffer, 0, length),
+        Err(_) => &buffer[..0],
     }
 }
