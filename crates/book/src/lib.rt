@@ -110,7 +110,7 @@ impl Book {
         self.run
     }
 
-    // An order with these hours: its answer, and the next book.
+    // An order with these hours: its answer, and the next book. Ready and due are two numbers: an `Order` would ask a caller for a grower too.
     pub fn take(self, ready: u32, due: u32) -> Taken
         ensures { Answered self ready (decided self ready due) result }
     {

@@ -47,6 +47,7 @@ fn print_reply(text: &[u8]) {
 }
 
 // Prints as many lines of a reply as a buffer has room for; how far it has come then. Where they could not be written no more is tried.
+// That of the cases shows bytes and loses nothing: one function for both would be no plainer.
 #[tactic(auto, using(replies::proofs::Filling::none_of_some))]
 fn print_some(text: &[u8], reply: Reply) -> Reply
     requires { reply.over ≡ false }

@@ -95,11 +95,7 @@ fn passed(past: Progress, refusal: Refusal) -> Step
         × (result.progress ≡ past) }
 {
     Step {
-        order: Order {
-            grower: 0,
-            ready: 0,
-            due: 0,
-        },
+        order: Order::default(),
         answer: Answer::Refused(refusal.number()),
         progress: past,
     }

@@ -115,6 +115,7 @@ struct Passed {
 // load that it overlaps ends the search, which leaves both walks through a label. The search goes from the last plan line of the chamber
 // to the one before it, and so on. For each order the number of its plan line is kept, 0 for none, as `load_refusal` takes it.
 // `judge` cannot fail, so nothing here may run out of memory: the arrays are fixed, with room for the most lines, and name places.
+// A line's number goes on by hand beside its place: both are read behind the walk, where a `for` would have let them go.
 fn judge_plan(plan: &[u8], book: Book, readies: &[u32], dues: &[u32]) -> Judgement
     requires readies_len_bound { (length readies.now ≤ most_orders) × (length dues.now ≡ length readies.now) }
     requires chambers_le_most_chambers { book.chambers ≤ most_chambers }

@@ -55,6 +55,7 @@ fn put_sum(taken: u32, kept: u32, own: &mut [u8]) -> Written
 }
 
 // Writes the reply to a line: refusal 4 where its start is above the last hour, then 7 where the buffer is too short.
+// Its steps are those of `write_sum` too: one function over what puts the fields would carry that closure's contract and be no plainer.
 pub fn write_answer(line: u32, answer: Answer, buffer: &mut [u8]) -> Written
     ensures result_value { as_length result ≡ length_of (fitted buffer.old (reply_written line answer)) }
     ensures buffer_after { buffer.new ≡ buffer_after buffer.old (fitted buffer.old (reply_written line answer)) }
@@ -77,7 +78,8 @@ pub fn write_sum(taken: u32, kept: u32, buffer: &mut [u8]) -> Written
 }
 
 // How far a reply has come: the number that its list is refused by, if it does not begin; the progress through the list; whether no line is
-// left to be written. A reply that is over still tells the book that its list came to.
+// left to be written. A reply that is over comes back with its progress and its book (`fill_over`). The refusal is a number, since a reply
+// with any number may be handed in.
 #[derive(Clone, Copy, Debug, PartialEq, Eq)]
 pub struct Reply {
     pub refusal: Option<u32>,
@@ -85,7 +87,8 @@ pub struct Reply {
     pub over: bool,
 }
 
-// How many bytes at the front of a buffer were filled, and how far the reply has come with them.
+// How many bytes at the front of a buffer were filled, and how far the reply has come with them. The length stands beside the buffer, which is
+// the caller's (`fill_lines`): no memory is asked for.
 #[derive(Clone, Copy, Debug, PartialEq, Eq)]
 pub struct Filled {
     pub length: usize,

@@ -32,7 +32,7 @@ pub fn part<'a>(text: &'a [u8], from: usize, to: usize) -> &'a [u8]
 }
 
 // The line that starts at a place, its end included where there is one; empty where none is left.
-// `line_at` and `walked_line` say the same of two callers; both are public (docs/FUNCTIONS.md).
+// `line_at` and `walked_line`, and `line_end` and `walked_place`, say the same to two callers; all are public (docs/FUNCTIONS.md).
 #[tactic(auto, using(crate::proofs::Lines::part_is))]
 pub fn line_at<'a>(text: &'a [u8], at: usize) -> &'a [u8]
     ensures result_value { result.now ≡ line_at text.now at }

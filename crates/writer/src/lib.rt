@@ -68,7 +68,8 @@ fn fill_hour(hour: u32, buffer: &mut [u8])
 }
 
 // Writes an hour with two digits after the comma: refusal 4 above the last hour, then 7 where the buffer is too short.
-// What is answered and what is held then are two clauses, here and in each public writing below: laws and callers cite them apart.
+// What is answered and what is held then are two clauses, here and in each public writing of this room and of those that use it: laws and
+// callers cite them apart.
 #[tactic(auto, unfolding(ground::specs::Buffer::fitted, ground::specs::Buffer::onto, crate::specs::Writing::hour_written))]
 pub fn write_hour(hour: u32, buffer: &mut [u8]) -> Written
     ensures result_value { as_length result ≡ length_of (fitted buffer.old (hour_written comma hour)) }
