@@ -1,16 +1,19 @@
--- What this room promises: that the definitions which every room shares are the paper's, and what its two functions answer.
+-- What this room promises: that the definitions which every room shares are the paper's, and what its functions answer.
 -- Each is a line over a law of this folder; the statements speak of numerals, lists and the definitions of `Spelling`. Assumes nothing.
 use Prim.Native.Nat.{ℕ, ◌+◌, ◌%◌, ◌^◌, ◌≤◌, ◌<◌}
 use Prim.Native.String.{String}
 use Prim.Native.Char.{Char, code}
-use mathlib.Core.Path.{◌≡◌, refl, ◌∙◌}
+use mathlib.Core.Path.{◌≡◌, refl, ◌∙◌, subst}
 use mathlib.Core.Bool.{Bool, true, false}
-use mathlib.Core.List.{List, [], ◌∷◌}
+use mathlib.Core.List.{List, [], ◌∷◌, Mem, not-mem-nil}
 use mathlib.Core.Logic.{◌↔◌}
 use lib.ListN.{length, take, drop}
 use lib.Dec.{leb}
 use borrow.Author.Tests.{leb-true, leb-false, le-leb, lt-leb}
 use contract.Lifetimes.{Lfts}
+use denote.RattleType.{RattleType}
+use denote.Param.Laws.{Laws}
+use mir.Syntax.{Dict}
 use Rattle.std.specs.Prelude.{Result, Ok, Err}
 use Rattle.ground.specs.declared.Refusal.{Refusal}
 use Rattle.ground.specs.declared.Refusal.TheVariants.{Misshapen, NotPlain, NotHour, OutOfRange, BelowClock, BookFull, NoRoom, NotSound, TooLong, Unlisted, Again, Early, Late, Overlapping}
@@ -152,13 +155,13 @@ pub injective_exactly : {A B : Type 0} (reading : A → B) → Injective reading
 injective_exactly reading = (λ told. told, λ told. told)
 
 -- 1d: the contract of each function admits a single outcome
--- `check` passes where the test is met, and gives the refusal where it is not
-module _ (κs : Lfts 0) (met : Bool) (refusal : Refusal) (after : _) where
-  pub check_single : Single (λ answer. check_reads.Learnt κs (met, (refusal, tt)) answer after)
+-- `check` passes where the test is met, and gives what says why where it is not: a refusal, a number, whatever type it has
+module _ (E : RattleType) (laws : Laws E) (drops : Dict) (κs : Lfts 1) (met : Bool) (refusal : E.Denot) (after : _) where
+  pub check_single : Single (λ answer. check_reads.Learnt E laws drops κs (met, (refusal, tt)) answer after)
   check_single one other this that = cc
 
   pub check_answers :
-      (answer : Result (Unit {0}) Refusal) → check_reads.Learnt κs (met, (refusal, tt)) answer after
+      (answer : Result (Unit {0}) E.Denot) → check_reads.Learnt E laws drops κs (met, (refusal, tt)) answer after
       → (met ≡ true → answer ≡ Ok tt) × (met ≡ false → answer ≡ Err refusal)
   check_answers answer learnt = (λ holds. learnt ∙ rw holds, λ fails. learnt ∙ rw fails)
 
@@ -179,9 +182,9 @@ module _ (κs : Lfts 0) (low high number : ℕ) (after : _) where
       (answer : Bool) → within_reads.Learnt κs (low, (high, (number, tt))) answer after → (answer ≡ true) ↔ ((low ≤ number) × (number ≤ high))
   within_answers answer learnt = rw learnt (within_exactly low high number)
 
--- 1a: no public function asks anything of what it is passed
+-- 1a: no public function asks anything of what it is passed. `check` is of every type without lifetimes, as numbers and refusals are
 pub nothing_asked :
-    ((κs : Lfts 0) (passed : _) → check_reads.Asked κs passed)
+    ((E : RattleType) (laws : Laws E) (drops : Dict) (κs : Lfts 1) (passed : _) → E.lives ≡ [] → check_reads.Asked E laws drops κs passed)
     × ((κs : Lfts 0) (passed : _) → number_reads.Asked κs passed)
     × ((κs : Lfts 0) (passed : _) → within_reads.Asked κs passed)
-nothing_asked = (λ κs passed. tt, λ κs passed. tt, λ κs passed. tt)
+nothing_asked = (λ E laws drops κs passed lasting lifetime lives. absurd (not-mem-nil (subst (Mem lifetime) lasting lives)), λ κs passed. tt, λ κs passed. tt)

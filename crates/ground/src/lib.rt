@@ -69,8 +69,8 @@ impl From<Refusal> for u32 {
     }
 }
 
-// A test that is passed, or refused.
-pub fn check(met: bool, refusal: Refusal) -> Result<(), Refusal>
+// A test that is passed, or refused, with whatever says why: a refusal, or any number.
+pub fn check<E: Drop>(met: bool, refusal: E) -> Result<(), E>
     ensures { result ≡ cond met (Ok tt) (Err refusal) }
 {
     if met { Ok(()) } else { Err(refusal) }
