@@ -4,7 +4,7 @@
 // to its end is unread.
 #![tactic(auto)]
 
-ghost use Rattle.std.specs.Prelude.{◌≤◌, length};
+ghost use Rattle.std.specs.Prelude.{◌≤◌, length, IfSome};
 
 use ground::LONGEST_TEXT;
 use judgements::write_checked;
@@ -31,7 +31,9 @@ fn main(rt: HostRuntime) {
 }
 
 // The text of the file that an argument names, read into some room; none where the file is unread.
-fn read_named<'a, R: Env + Files>(rt: &R, place: usize, room: &'a mut [u8]) -> Option<&'a [u8]> {
+fn read_named<'a, R: Env + Files>(rt: &R, place: usize, room: &'a mut [u8]) -> Option<&'a [u8]>
+    ensures { IfSome result (λ text. length text.now ≤ length room.old) }
+{
     let mut file = open_named(rt, place)?;
     let length = read_full(&mut file, room);
     was_read(&mut file).then_some(&room[..length])
