@@ -29,17 +29,19 @@ enum Stage {
 fn next(stage: Stage, class: Class) -> Stage
     ensures { result ≡ next stage class }
 {
-    match (stage, class) {
-        (Stage::Start, Class::Digit(digit)) => Stage::Whole(u16::from(digit)),
-        (Stage::Whole(whole @ 1..=999), Class::Digit(digit)) => {
-            Stage::Whole(whole * 10 + u16::from(digit))
-        }
-        (Stage::Whole(whole), Class::Mark) => Stage::Marked(whole),
-        (Stage::Marked(whole), Class::Digit(tenth)) => Stage::Tenth(whole, tenth),
-        (Stage::Tenth(whole, tenth), Class::Digit(hundredth)) => {
-            Stage::Hundredth(whole, tenth, hundredth)
-        }
-        _ => Stage::Broken,
+    match class {
+        Class::Digit(digit) => match stage {
+            Stage::Start => Stage::Whole(u16::from(digit)),
+            Stage::Whole(whole @ 1..=999) => Stage::Whole(whole * 10 + u16::from(digit)),
+            Stage::Marked(whole) => Stage::Tenth(whole, digit),
+            Stage::Tenth(whole, tenth) => Stage::Hundredth(whole, tenth, digit),
+            _ => Stage::Broken,
+        },
+        Class::Mark => match stage {
+            Stage::Whole(whole) => Stage::Marked(whole),
+            _ => Stage::Broken,
+        },
+        Class::Tab | Class::LineEnd | Class::Foreign => Stage::Broken,
     }
 }
 
