@@ -1,6 +1,6 @@
 -- Laws of the choice among chambers: one after another from the left. Assumes nothing.
 use Prim.Native.Nat.{ℕ, zero, suc, ◌+◌, ◌≤◌, ◌<◌}
-use mathlib.Core.Path.{◌≡◌, refl, sym, ap, ◌∙◌}
+use mathlib.Core.Path.{◌≡◌, refl, sym, ap}
 use mathlib.Core.List.{List, [], ◌∷◌}
 use lib.ListN.{length, get_or, take, drop, length-take, drop_of_length-le}
 use lib.Seq.{drop-cons, get_or-take}
@@ -9,7 +9,7 @@ use native.Mathlib.Numerals.{add-one}
 use native.Mathlib.Omega.{arith}
 use borrow.Author.Tests.{ltb-true, ltb-false, lt-ltb, le-ltb}
 use Rattle.std.specs.Prelude.{Option, Some, None}
-use Rattle.std.specs.List.{reduce, fold, filter_map, cons_option, zip, range_with_len}
+use Rattle.std.specs.List.{fold, zip, range_with_len}
 use Rattle.ground.proofs.Tests.{by_test}
 use Rattle.choice.specs.BestFit.{offer, fuller, better, best_fit}
 use Rattle.choice.specs.declared.Offer.{Offer}
@@ -40,31 +40,22 @@ better_assoc (Some one) None three = refl
 better_assoc (Some one) (Some two) None = refl
 better_assoc (Some one) (Some two) (Some three) = ap Some (fuller_assoc one two three)
 
--- the best of several offers is the better of the first and of the best of the others
-fullest : (one two : Offer) (offers : List Offer) → fold fuller (fuller one two) offers ≡ fuller one (fold fuller two offers)
-fullest one two [] = refl
-fullest one two (three ∷ offers) = rw (fuller_assoc one two three) (fullest one (fuller two three) offers)
-
-first_offer : (first : Option Offer) (offers : List Offer) → reduce fuller (cons_option first offers) ≡ better first (reduce fuller offers)
-first_offer None offers = refl
-first_offer (Some one) [] = refl
-first_offer (Some one) (two ∷ offers) = ap Some (fullest one two offers)
-
 module _ (ready due run : ℕ) where
-  -- what a chamber with its free hour offers
+  -- what a chamber offers, by how many stand before it and its free hour
   abbrev pub its_offer : ℕ × ℕ → Option Offer
-  its_offer numbered = offer ready due run numbered.0 numbered.1
+  its_offer placed = offer ready due run (placed.0 + 1) placed.1
 
-  -- so the best of what chambers offer is the choice among them
-  pub best_offer :
-      (first count : ℕ) (hours : List ℕ)
-      → reduce fuller (filter_map its_offer (zip (range_with_len first count) hours)) ≡ best_fit ready due run first (take count hours)
+  -- so the better of what was chosen before and of each offer in turn is the choice among them
+  pub best_so_far :
+      (before count : ℕ) (hours : List ℕ) (choice : Option Offer)
+      → fold (λ best placed. better best (its_offer placed)) choice (zip (range_with_len before count) hours)
+      ≡ better choice (best_fit ready due run (before + 1) (take count hours))
   unfolding best_fit
-  best_offer first zero hours = refl
-  best_offer first (suc count) [] = refl
-  best_offer first (suc count) (free ∷ others) =
-      first_offer (offer ready due run first free) (filter_map its_offer (zip (range_with_len (first + 1) count) others))
-      ∙ ap (better (offer ready due run first free)) (rw add-one (best_offer (suc first) count others))
+  best_so_far before zero hours choice = sym (better_nothing choice)
+  best_so_far before (suc count) [] choice = sym (better_nothing choice)
+  best_so_far before (suc count) (free ∷ others) choice =
+      rw (sym (better_assoc choice (offer ready due run (before + 1) free) (best_fit ready due run (suc (before + 1)) (take count others))), sym (add-one (before + 1)))
+      (best_so_far (before + 1) count others (better choice (offer ready due run (before + 1) free)))
 
 module _ (ready due run chamber : ℕ) (choice : Option Offer) (hours : List ℕ) (count at : ℕ) where
   -- one chamber further

@@ -3,7 +3,7 @@
 #![tactic(auto)]
 
 ghost use Rattle.std.specs.Prelude.{◌≡◌, take};
-ghost use Rattle.choice.specs.BestFit.{fuller, offer, best_fit};
+ghost use Rattle.choice.specs.BestFit.{better, fuller, offer, best_fit};
 
 // What one chamber offers: its number, and the start there.
 #[derive(Clone, Copy, Debug, PartialEq, Eq)]
@@ -32,13 +32,23 @@ fn fuller(one: Offer, other: Offer) -> Offer
     if one.start < other.start { other } else { one }
 }
 
+// The fuller of what two chambers offer, where either may offer nothing.
+fn better(one: Option<Offer>, other: Option<Offer>) -> Option<Offer>
+    ensures { result ≡ better one other }
+{
+    match (one, other) {
+        (Some(one), Some(other)) => Some(fuller(one, other)),
+        (None, other) => other,
+        (one, None) => one,
+    }
+}
+
 // The choice among so many chambers, the first of them chamber 1, with these free hours; none where no chamber fits.
 // Ready and due are two numbers, as callers give them (`Book::take`, `best_fit_single`); an `Order` would ask for a grower.
 pub fn best_fit(ready: u32, due: u32, run: u32, hours: &[u32], count: u32) -> Option<Offer>
     ensures { result ≡ best_fit ready due run 1 (take count hours.now) }
 {
-    (1..=count)
-        .zip(hours)
-        .filter_map(|(chamber, &free)| offered(ready, due, run, chamber, free))
-        .reduce(fuller)
+    (0..count).zip(hours).fold(None, |best, (place, &free)| {
+        better(best, offered(ready, due, run, place + 1, free))
+    })
 }
