@@ -2,11 +2,12 @@
 -- Assumes nothing.
 use Prim.Native.Nat.{ℕ, suc, ◌+◌, ◌-◌, ◌<◌}
 use mathlib.Core.Path.{◌≡◌, refl, sym, ap, ◌∙◌}
-use mathlib.Core.Bool.{true, false}
+use mathlib.Core.Bool.{true, false, ◌&&◌}
 use mathlib.Core.List.{List}
 use lib.ListN.{get_or, set, get_or-map}
 use native.Mathlib.Omega.{arith}
-use Rattle.std.specs.Prelude.{Option, Some, None}
+use Rattle.std.specs.Prelude.{Option, Some, None, eqb, ltb}
+use Rattle.std.proofs.Math.Bool.{and_comm}
 use Rattle.std.proofs.lemmas.List.{map-set}
 use Rattle.ground.specs.Refusal.{wrong}
 use Rattle.ground.specs.Limits.{most_orders, first_order_line}
@@ -42,6 +43,12 @@ module _ (passed : List Passed) (there : ℕ) where
 pub none_left : (earlier : Option ℕ) → ((there : ℕ) → earlier ≡ Some there → ⊥) → line_at_place earlier ≡ 0
 none_left None never = refl
 none_left (Some there) never = absurd (never there refl)
+
+-- two loads in one chamber overlap whichever comes first
+turned :
+    (held chamber start other : ℕ)
+    → overlap held (load_from chamber start) (load_from chamber other) ≡ overlap held (load_from chamber other) (load_from chamber start)
+turned held chamber start other = ap (λ times. eqb chamber chamber && times) (and_comm (ltb start (other + held)) (ltb other (start + held)))
 
 -- the last line of a chamber
 last_at : (lasts : List (Option ℕ)) (chamber : ℕ) → get_or (lasts_of lasts) chamber 0 ≡ line_at_place (get_or lasts chamber None)
@@ -89,14 +96,14 @@ module _ {plan : List ℕ} {book : Book} {readies dues lines : List ℕ} {line a
 
     -- where its load is not overlapped the search goes on
     pub search_on :
-        overlap held (load_from load.chamber load.start) (load_from load.chamber (get_or passed there none).start) ≡ false
+        overlap held (load_from load.chamber (get_or passed there none).start) (load_from load.chamber load.start) ≡ false
         → Searched (starts_of passed) (befores_of passed) held load (get_or (lasts_of lasts) (load.chamber - 1) 0) (line_at_place (get_or passed there none).before)
     search_on apart =
         rw (← before_at passed there)
-        (earlier_on noting held (suc there) holds searched_here some (rw (start_at passed there) apart))
+        (earlier_on noting held (suc there) holds searched_here some (rw (start_at passed there) (turned held load.chamber load.start _ ∙ apart)))
 
     -- where it is, that is the fault
     pub passed_overlap :
-        overlap held (load_from load.chamber load.start) (load_from load.chamber (get_or passed there none).start) ≡ true
+        overlap held (load_from load.chamber (get_or passed there none).start) (load_from load.chamber load.start) ≡ true
         → loads_counted plan book (orders_from readies dues) ≡ wrong (fault_of 15 true line at (past_line plan at))
-    passed_overlap meets = reached_overlap noting held (suc there) holds searched_here some (rw (start_at passed there) meets)
+    passed_overlap meets = reached_overlap noting held (suc there) holds searched_here some (rw (start_at passed there) (turned held load.chamber load.start _ ∙ meets))

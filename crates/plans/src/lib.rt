@@ -104,16 +104,18 @@ fn note_load(
     Ok(load)
 }
 
-// A plan line that was gone through: the start of its load, and the place of the plan line before it in its chamber.
+// A plan line that was gone through: the start of its load, and the place of the plan line before it in its chamber. Places are kept as
+// `u16`, with room for the most lines: `judge_plan` has these on the stack.
 #[derive(Clone, Copy, Default)]
 struct Passed {
     start: u32,
-    before: Option<usize>,
+    before: Option<u16>,
 }
 
 // The loads of a plan, for a list that begins with this book and has orders of these hours: each plan line is noted, and the first earlier
 // load that it overlaps ends the search, which leaves both walks through a label. The search goes from the last plan line of the chamber
-// to the one before it, and so on. For each order the number of its plan line is kept, 0 for none, as `load_refusal` takes it.
+// to the one before it, and so on; `overlap` takes the earlier load first, so that its first test is of that start against a sum that stays
+// the same. For each order the number of its plan line is kept, 0 for none, as `load_refusal` takes it.
 // `judge` cannot fail, so nothing here may run out of memory: the arrays are fixed, with room for the most lines, and name places.
 // A line's number goes on by hand beside its place: both are read behind the walk, where a `for` would have let them go.
 fn judge_plan(plan: &[u8], book: Book, readies: &[u32], dues: &[u32]) -> Judgement
@@ -136,8 +138,8 @@ fn judge_plan(plan: &[u8], book: Book, readies: &[u32], dues: &[u32]) -> Judgeme
         let last = lasts[chamber];
         let mut earlier = last;
         while let Some(there) = earlier {
-            let other = passed[there];
-            if overlap(hold, load.chamber, load.start, load.chamber, other.start) {
+            let other = passed[there as usize];
+            if overlap(hold, load.chamber, other.start, load.chamber, load.start) {
                 break 'plan;
             }
             earlier = other.before;
@@ -149,7 +151,7 @@ fn judge_plan(plan: &[u8], book: Book, readies: &[u32], dues: &[u32]) -> Judgeme
             start: load.start,
             before: last,
         };
-        lasts[chamber] = Some(place);
+        lasts[chamber] = Some(place as u16);
         line += 1;
         at = end;
     }
