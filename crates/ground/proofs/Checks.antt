@@ -2,7 +2,7 @@
 use Prim.Native.Nat.{ℕ}
 use mathlib.Core.Path.{◌≡◌, refl, sym, ap, ◌∙◌}
 use mathlib.Core.Logic.{◌↔◌}
-use mathlib.Core.Bool.{Bool, true, false, cond}
+use mathlib.Core.Bool.{Bool, true, false, cond, ◌&&◌}
 use native.Mathlib.Omega.{arith}
 use Rattle.ground.proofs.Tests.{never_both}
 use Rattle.ground.specs.Refusal.{Or, wrong, right, Read, check, number_of, ◌>>◌}
@@ -22,6 +22,13 @@ same_wrong {E} {A} {d} {e} same = cc
 pub number_of_check : {A : Type 0} (met : Bool) (number : ℕ) (rest : Read A) → number_of (check met number >> rest) ≡ cond met (number_of rest) number
 number_of_check true number rest = refl
 number_of_check false number rest = refl
+
+-- two checks by one number are one check
+pub two_checks :
+    {A : Type 0} (one other : Bool) (number : ℕ) (rest : Read A)
+    → ((check one number >> check other number) >> rest) ≡ (check (one && other) number >> rest)
+two_checks true other number rest = refl
+two_checks false other number rest = refl
 
 -- with a number there is a refusal
 pub refused_by : {A : Type 0} (read : Read A) → (number_of read ≡ 0 → ⊥) → read ≡ wrong (number_of read)

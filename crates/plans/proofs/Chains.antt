@@ -134,6 +134,10 @@ Searched starts befores held load first line =
     × ((loads : List Load) → Chain starts befores load.chamber first loads
     → (left : List Load) × Chain starts befores load.chamber line left × (overlaps_any held load left ≡ overlaps_any held load loads))
 
+-- at the first line all is left
+pub searched_top : (starts befores : List ℕ) (held : ℕ) (load : Load) (first : ℕ) → Searched starts befores held load first first
+searched_top starts befores held load first = (omega arith, λ loads chain. (loads, chain, refl))
+
 module _ (starts befores : List ℕ) (held : ℕ) (load : Load) (first line : ℕ) (searched : Searched starts befores held load first line)
     (loads : List Load) (chain : Chain starts befores load.chamber first loads) where
   -- with no line left none overlaps

@@ -112,6 +112,21 @@ pub record Gone (list : List ℕ) (begun : Progress) (readies dues : List ℕ) (
   pub low : progress.line ≤ progress.at + 2
   pub sized : (length readies ≡ most_orders) × (length dues ≡ most_orders)
 
+-- at the top there is none
+pub gone_top :
+    (list : List ℕ) (begun : Progress) (readies dues : List ℕ) → (length readies ≡ most_orders) × (length dues ≡ most_orders)
+    → (begun.book.taken ≡ 0) × (begun.line ≤ begun.at + 2) → Gone list begun readies dues begun 0
+gone_top list begun readies dues sized fresh =
+    record {
+      orders = [];
+      whole = refl;
+      hours = record { ready_hours = refl; due_hours = refl };
+      counted = fresh.0;
+      few = omega arith;
+      low = fresh.1;
+      sized = sized;
+    }
+
 module _ {list : List ℕ} {begun : Progress} {readies dues : List ℕ} {progress : Progress} {count : ℕ} (gone : Gone list begun readies dues progress count) where
   -- past the end all stand there
   pub gone_end : length list ≤ progress.at → orders_left list begun [] ≡ right (record { book = progress.book; orders = gone.orders })

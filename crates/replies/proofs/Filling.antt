@@ -69,6 +69,13 @@ pub rest_back :
 rest_back at buffer last inside =
     rw (drop_of_length-le (drop at buffer) {i = length buffer - at} (omega (arith, length-drop at buffer)), append-nil)
 
+-- so a part from a place to the end that came back with a line at its front
+pub part_back :
+    (at : ℕ) (buffer line : List ℕ) {last : List ℕ} → at ≤ length buffer → last ≡ onto line (mid_of at (length buffer - at) buffer)
+    → put_mid at (length buffer - at) buffer last ≡ take at buffer ++ onto line (drop at buffer)
+part_back at buffer line {last} inside back =
+    rest_back at buffer last inside ∙ ap (λ part. take at buffer ++ part) (back ∙ ap (onto line) (rest_of at buffer))
+
 -- of a writing behind what a buffer is filled with
 pub ruleset written_behind = (counted_written, counted_whole, held_whole, rest_of, rest_back)
 
