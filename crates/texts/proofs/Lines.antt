@@ -3,11 +3,12 @@ use Prim.Native.Nat.{ℕ, ◌+◌, ◌-◌, ◌≤◌, ◌<◌, max, min}
 use mathlib.Core.Path.{◌≡◌, refl, sym, ◌∙◌}
 use mathlib.Core.Bool.{Bool, ◌&&◌}
 use mathlib.Core.List.{List, [], ◌∷◌}
-use lib.ListN.{length, take, drop, length-take, length-drop, drop_of_length-le}
-use lib.Seq.{take_all}
+use lib.ListN.{length, get_or, take, drop, length-take, length-drop, drop_of_length-le}
+use lib.Seq.{take_all, drop-cons}
 use lib.Dec.{leb, ltb, eqb}
+use native.Mathlib.Numerals.{add-one}
 use native.Mathlib.Omega.{arith}
-use borrow.Author.Tests.{le-leb, lt-leb, leb-true, leb-false, ltb-true, ltb-false}
+use borrow.Author.Tests.{eq-eqb, ne_eqb, le-leb, lt-leb, leb-true, leb-false, ltb-true, ltb-false}
 use Rattle.std.specs.Prelude.{nat_eq, Some, None}
 use Rattle.std.specs.List.{position, position_or_len}
 use Rattle.std.specs.Option.{unwrap_or}
@@ -74,6 +75,16 @@ module _ (text : List ℕ) (at : ℕ) where
   pub past_unfound : position is_end (drop at text) ≡ None → at + length (drop at text) ≡ past_line text at
   unfolding past_line
   past_unfound missing = omega (arith, line_unfound (drop at text) missing)
+
+  -- a line end stands here
+  pub past_end : at < length text → get_or text at 0 ≡ line_end → past_line text at ≡ at + 1
+  unfolding past_line line_length
+  past_end inside here = rw (drop-cons text at 0 inside, eq-eqb _ _ here)
+
+  -- another byte stands here
+  pub past_other : at < length text → (get_or text at 0 ≡ line_end → ⊥) → past_line text at ≡ past_line text (at + 1)
+  unfolding past_line line_length
+  past_other inside other = rw (drop-cons text at 0 inside, ne_eqb _ _ other, add-one) (omega arith)
 
   not_before : at ≤ past_line text at
   unfolding past_line
