@@ -80,10 +80,14 @@ fn answer_read(line: &[u8]) -> Option<()> {
     Some(())
 }
 
-// A case whose one word is a text. A text has no space, and so no second word.
+// A case whose one word is a text. Its room is filled where there is one word, and kept out of the other functions, which have rooms too.
+#[inline(never)]
 fn with_text<F: FnOnce(&[u8])>(word: &[u8], answer: F) -> Option<()>
     requires { F.IsAlwaysCallable answer }
 {
+    if words::parted(word).is_some() {
+        return None;
+    }
     let mut space = [0; TEXT_ROOM];
     answer(case_text::read(word, &mut space)?);
     Some(())
@@ -98,16 +102,17 @@ fn with_number_and_text<F: FnOnce(&[u8], u32)>(words: &[u8], answer: F) -> Optio
     with_text(word, |text| answer(text, number))
 }
 
-// A case whose words are two texts.
+// A case whose words are two texts. The second is read first: only where it is a text is room for the first one filled.
 fn with_texts<F: FnOnce(&[u8], &[u8])>(words: &[u8], answer: F) -> Option<()>
     requires { F.IsAlwaysCallable answer }
 {
     let (word, other) = words::parted(words)?;
-    let mut space = [0; TEXT_ROOM];
+    if words::parted(other).is_some() {
+        return None;
+    }
     let mut other_space = [0; TEXT_ROOM];
-    answer(
-        case_text::read(word, &mut space)?,
-        case_text::read(other, &mut other_space)?,
-    );
+    let other = case_text::read(other, &mut other_space)?;
+    let mut space = [0; TEXT_ROOM];
+    answer(case_text::read(word, &mut space)?, other);
     Some(())
 }
