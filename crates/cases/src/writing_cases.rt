@@ -33,11 +33,11 @@ fn write_to<F: FnOnce(&mut [u8]) -> Written>(room: u32, write: F)
 // What a writing answered, and the whole buffer afterwards.
 fn show(written: Written, buffer: &[u8]) {
     match written {
-        Ok(length) => {
+        Written::Length(length) => {
             results::word(b"length");
             results::number(length as u64);
         }
-        Err(number) => results::refused(number),
+        Written::Refused(number) => results::refused(number),
     }
     results::text(buffer);
 }

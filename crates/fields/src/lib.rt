@@ -29,16 +29,15 @@ const NO_CUT: Cut = Cut {
 
 impl Cut {
     // One field more, which ends at a place. By an index: of a write through `get_mut` the library does not say what the array is then.
-    fn with_end(mut self, at: usize) -> Cut
-        requires { self.count < most_counted }
-        ensures { result ≡ one_field_more self at }
+    fn add_end(&mut self, at: usize)
+        requires { self.old.count < most_counted }
+        ensures { self.new ≡ one_field_more self.old at }
     {
         let place = self.count;
         if place < MOST_FIELDS {
             self.ends[place] = at;
         }
         self.count += 1;
-        self
     }
 
     // Where a field ends, if there is one and its end was kept.
@@ -75,10 +74,11 @@ pub fn cut_line(line: &[u8]) -> Cut
     let mut found = NO_CUT;
     for (at, byte) in line.iter().enumerate() {
         match class_of(*byte) {
-            Class::Tab => found = found.with_end(at),
+            Class::Tab => found.add_end(at),
             Class::LineEnd => {
+                found.add_end(at);
                 let alone = at + 1 == line.len();
-                return if alone { found.with_end(at) } else { NO_CUT };
+                return if alone { found } else { NO_CUT };
             }
             Class::Digit(_) | Class::Mark | Class::Foreign => {}
         }

@@ -15,6 +15,8 @@ use denote.RattleType.{RattleType}
 use denote.Param.Laws.{Laws}
 use mir.Syntax.{Dict}
 use Rattle.std.specs.Prelude.{Result, Ok, Err}
+use Rattle.std.specs.Borrow.{u32}
+use Rattle.ground.specs.contracts.Refusal.{the_row as refusals_type}
 use Rattle.ground.specs.declared.Refusal.{Refusal}
 use Rattle.ground.specs.declared.Refusal.TheVariants.{Misshapen, NotPlain, NotHour, OutOfRange, BelowClock, BookFull, NoRoom, NotSound, TooLong, Unlisted, Again, Early, Late, Overlapping}
 use Rattle.ground.specs.declared.TheConstants.{LAST_HOUR, MOST_CHAMBERS, LAST_PLAIN, LONGEST_RUN, MOST_ORDERS, LONGEST_TEXT, FIRST_ORDER_LINE, LAST_ORDER_LINE}
@@ -182,9 +184,21 @@ module _ (κs : Lfts 0) (low high number : ℕ) (after : _) where
       (answer : Bool) → within_reads.Learnt κs (low, (high, (number, tt))) answer after → (answer ≡ true) ↔ ((low ≤ number) × (number ≤ high))
   within_answers answer learnt = rw learnt (within_exactly low high number)
 
--- 1a: no public function asks anything of what it is passed. `check` is of every type without lifetimes, as numbers and refusals are
+-- 1a: no public function asks anything of what it is passed. `check` is of every type without lifetimes, as those of refusals and numbers are
+check_unasked :
+    (E : RattleType) (laws : Laws E) (drops : Dict) (κs : Lfts 1) (passed : _) → E.lives ≡ [] → check_reads.Asked E laws drops κs passed
+check_unasked E laws drops κs passed lasting lifetime lives = absurd (not-mem-nil (subst (Mem lifetime) lasting lives))
+
 pub nothing_asked :
     ((E : RattleType) (laws : Laws E) (drops : Dict) (κs : Lfts 1) (passed : _) → E.lives ≡ [] → check_reads.Asked E laws drops κs passed)
+    × ((laws : Laws refusals_type) (drops : Dict) (κs : Lfts 1) (passed : _) → check_reads.Asked refusals_type laws drops κs passed)
+    × ((laws : Laws u32) (drops : Dict) (κs : Lfts 1) (passed : _) → check_reads.Asked u32 laws drops κs passed)
     × ((κs : Lfts 0) (passed : _) → number_reads.Asked κs passed)
     × ((κs : Lfts 0) (passed : _) → within_reads.Asked κs passed)
-nothing_asked = (λ E laws drops κs passed lasting lifetime lives. absurd (not-mem-nil (subst (Mem lifetime) lasting lives)), λ κs passed. tt, λ κs passed. tt)
+nothing_asked = (
+  check_unasked,
+  λ laws drops κs passed. check_unasked refusals_type laws drops κs passed refl,
+  λ laws drops κs passed. check_unasked u32 laws drops κs passed refl,
+  λ κs passed. tt,
+  λ κs passed. tt,
+)

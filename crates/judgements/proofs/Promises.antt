@@ -12,6 +12,7 @@ use Rattle.std.specs.Prelude.{Result, Ok, Err}
 use Rattle.ground.specs.Refusal.{right}
 use Rattle.texts.specs.Lines.{lines_of}
 use Rattle.writer.specs.Meaning.{Writes}
+use Rattle.writer.specs.declared.Written.{Written}
 use Rattle.writer.proofs.Answers as answers
 use Rattle.plans.specs.Judging.{judged, shown}
 use Rattle.plans.specs.Meaning.{Obeys, FirstFault}
@@ -64,7 +65,7 @@ checked_fault list plan number in_plan at =
 -- 1b, 1c: what the checker prints is refused by 7 exactly when it is longer than the buffer, and every byte stays; in every other case it
 -- stands at the front, every other byte stays, and its length is answered
 pub checked_writes :
-    (κs : Lfts 3) (list plan buffer : _) (answer : Result ℕ ℕ) (after : _) → write_checked.Learnt κs (list, (plan, (buffer, tt))) answer after
+    (κs : Lfts 3) (list plan buffer : _) (answer : Written) (after : _) → write_checked.Learnt κs (list, (plan, (buffer, tt))) answer after
     → Writes (Unit {0}) (checked_line list.now plan.now) buffer.now answer after.1.1.0.now
 checked_writes κs list plan buffer answer after learnt =
     answers.writes true (Unit {0}) answers.always (checked_line list.now plan.now) buffer.now (right (checked_line list.now plan.now)) refl answer
@@ -72,19 +73,19 @@ checked_writes κs list plan buffer answer after learnt =
 
 -- and it has room in 48 bytes, so that it is never refused there; so has the line of any judgement
 pub checked_fits :
-    (κs : Lfts 3) (list plan buffer : _) (answer : Result ℕ ℕ) (after : _) → write_checked.Learnt κs (list, (plan, (buffer, tt))) answer after
+    (κs : Lfts 3) (list plan buffer : _) (answer : Written) (after : _) → write_checked.Learnt κs (list, (plan, (buffer, tt))) answer after
     → length (checked_line list.now plan.now) ≤ 48
 checked_fits κs list plan buffer answer after learnt = learnt.1.1
 
 pub judgement_fits :
-    (κs : Lfts 1) (judgement : Result ℕ Fault) (buffer : _) (answer : Result ℕ ℕ) (after : _) → write_judgement.Learnt κs (judgement, (buffer, tt)) answer after
+    (κs : Lfts 1) (judgement : Result ℕ Fault) (buffer : _) (answer : Written) (after : _) → write_judgement.Learnt κs (judgement, (buffer, tt)) answer after
     → length (judgement_line judgement) ≤ 48
 judgement_fits κs judgement buffer answer after learnt = learnt.1.1
 
 -- 1b, 1c: a judgement is refused by 7 exactly when its line is longer than the buffer, and every byte stays; in every other case its line
 -- stands at the front, every other byte stays, and its length is answered
 pub judgement_writes :
-    (κs : Lfts 1) (judgement : Result ℕ Fault) (buffer : _) (answer : Result ℕ ℕ) (after : _) → write_judgement.Learnt κs (judgement, (buffer, tt)) answer after
+    (κs : Lfts 1) (judgement : Result ℕ Fault) (buffer : _) (answer : Written) (after : _) → write_judgement.Learnt κs (judgement, (buffer, tt)) answer after
     → Writes (Unit {0}) (judgement_line judgement) buffer.now answer after.1.0.now
 judgement_writes κs judgement buffer answer after learnt =
     answers.writes true (Unit {0}) answers.always (judgement_line judgement) buffer.now (right (judgement_line judgement)) refl answer after.1.0.now
@@ -92,12 +93,12 @@ judgement_writes κs judgement buffer answer after learnt =
 
 -- 1d: each public function's contract admits a single outcome
 pub write_judgement_single :
-    (κs : Lfts 1) (judgement : Result ℕ Fault) (buffer : _) (one other : Result ℕ ℕ) (held kept : _) → write_judgement.Learnt κs (judgement, (buffer, tt)) one held
+    (κs : Lfts 1) (judgement : Result ℕ Fault) (buffer : _) (one other : Written) (held kept : _) → write_judgement.Learnt κs (judgement, (buffer, tt)) one held
     → write_judgement.Learnt κs (judgement, (buffer, tt)) other kept → (one ≡ other) × (held.1.0.now ≡ kept.1.0.now)
 write_judgement_single κs judgement buffer one other held kept p q = answers.single one other p.0 q.0 (p.1.0 ∙ sym q.1.0)
 
 pub write_checked_single :
-    (κs : Lfts 3) (list plan buffer : _) (one other : Result ℕ ℕ) (held kept : _) → write_checked.Learnt κs (list, (plan, (buffer, tt))) one held
+    (κs : Lfts 3) (list plan buffer : _) (one other : Written) (held kept : _) → write_checked.Learnt κs (list, (plan, (buffer, tt))) one held
     → write_checked.Learnt κs (list, (plan, (buffer, tt))) other kept → (one ≡ other) × (held.1.1.0.now ≡ kept.1.1.0.now)
 write_checked_single κs list plan buffer one other held kept p q = answers.single one other p.0 q.0 (p.1.0 ∙ sym q.1.0)
 

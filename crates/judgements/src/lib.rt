@@ -29,11 +29,11 @@ fn put_judgement(judgement: Judgement, own: &mut [u8]) -> Written
 {
     match judgement {
         Ok(count) => {
-            let worded = put_word(Ok(0), b"right", b'\t', own);
+            let worded = put_word(Written::Length(0), b"right", b'\t', own);
             put_number(worded, count, b'\n', own)
         }
         Err(fault) => {
-            let worded = put_word(Ok(0), b"fault", b'\t', own);
+            let worded = put_word(Written::Length(0), b"fault", b'\t', own);
             let numbered = put_number(worded, fault.number, b'\t', own);
             let named = put_word(numbered, text_word(fault.plan), b'\t', own);
             put_number(named, fault.line, b'\n', own)
@@ -63,4 +63,16 @@ pub fn write_checked(list: &[u8], plan: &[u8], buffer: &mut [u8]) -> Written
 {
     let judgement = judge(list, plan);
     write_judgement(judgement, buffer)
+}
+
+#[cfg(test)]
+mod tests {
+    use super::*;
+
+    // What no clause says: a caller who looks at the buffer alone may leave what a writing answers unlooked at.
+    #[test]
+    fn checked_left_unlooked_at() {
+        let mut buffer = [0u8; LINE_ROOM];
+        write_checked(b"steam\t1\t3\n7\t0\t3\n", b"2\t1\t0\n", &mut buffer);
+    }
 }

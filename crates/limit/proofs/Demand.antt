@@ -16,7 +16,8 @@ use Rattle.ground.specs.Text.{bytes}
 use Rattle.ground.specs.Buffer.{onto, length_of, buffer_after}
 use Rattle.ground.proofs.Promises.{onto_exactly}
 use Rattle.texts.specs.Lines.{lines_of, line_at}
-use Rattle.std.specs.Prelude.{Result, Ok}
+use Rattle.writer.specs.declared.Written.{Written}
+use Rattle.writer.specs.declared.Written.TheVariants.{Length}
 use Rattle.lines.specs.Reading.{heading_of}
 use Rattle.lines.specs.Meaning.{HeadingReads}
 use Rattle.lines.proofs.Promises.{heading_reads}
@@ -90,14 +91,14 @@ pub record Wrote (κs : Lfts 1) (order chamber start : ℕ) (text : List ℕ) : 
   pub buffer : MutBor (List ℕ)
   pub count : ℕ
   pub after : ℕ × (ℕ × (ℕ × (MutBor (List ℕ) × Unit {0})))
-  pub learnt : write_plan_line.Learnt κs (order, (chamber, (start, (buffer, tt)))) (Ok count) after
+  pub learnt : write_plan_line.Learnt κs (order, (chamber, (start, (buffer, tt)))) (Length count) after
   pub front : take count after.1.1.1.0.now ≡ text
 
 -- it is the plan line of these numbers
 wrote_plan_line : {κs : Lfts 1} (order chamber start : ℕ) (text : List ℕ) → Wrote κs order chamber start text → text ≡ plan_text order chamber start
 wrote_plan_line {κs} order chamber start text wrote =
     sym wrote.front
-    ∙ (plan_line_writes κs order chamber start wrote.buffer (Ok wrote.count) wrote.after wrote.learnt).front wrote.count refl
+    ∙ (plan_line_writes κs order chamber start wrote.buffer (Length wrote.count) wrote.after wrote.learnt).front wrote.count refl
 
 -- with numbers in range it can be, to whatever buffer of 14 bytes or more
 can_write :
@@ -122,9 +123,9 @@ module _ (list : List ℕ) (heading : Heading) (orders : List Order) (clean : Cl
   -- 3a over what is written: each yes is accepted, with the number of its order's line, to whatever buffer of 14 bytes or more
   pub yes_accepted :
       (front : List Answer) (chamber start : ℕ) (rest : List Answer) → answers ≡ front ++ Yes chamber start ∷ rest
-      → (buffer : MutBor (List ℕ)) (answer : Result ℕ ℕ) (after : _)
+      → (buffer : MutBor (List ℕ)) (answer : Written) (after : _)
       → write_plan_line.Learnt κs (2 + length front, (chamber, (start, (buffer, tt)))) answer after → 14 ≤ length buffer.now
-      → (count : ℕ) × (answer ≡ Ok count)
+      → (count : ℕ) × (answer ≡ Length count)
   yes_accepted front chamber start rest among buffer answer after learnt room =
       let range = printed.yes_in_range list heading orders clean front chamber start rest among in
       let text : List ℕ = plan_text (2 + length front) chamber start in

@@ -13,7 +13,8 @@ use Rattle.fields.specs.Meaning.{tabbed}
 use Rattle.writer.specs.Writing.{hour_text}
 use Rattle.writer.specs.Line.{line_with}
 use Rattle.writer.specs.Meaning.{Writes}
-use Rattle.std.specs.Prelude.{Result, Ok}
+use Rattle.writer.specs.declared.Written.{Written}
+use Rattle.writer.specs.declared.Written.TheVariants.{Length}
 use Rattle.writer.proofs.Answers as answers
 use Rattle.lines.specs.Reading.{load_of}
 use Rattle.planlines.specs.Writing.{plan_text, plan_written}
@@ -24,7 +25,7 @@ use Rattle.planlines.proofs.write_plan_line.Reads as write_plan_line
 
 -- 1d: the writer's contract admits a single outcome
 pub write_plan_line_single :
-    (κs : Lfts 1) (order chamber start : ℕ) (buffer : _) (one other : Result ℕ ℕ) (held kept : _)
+    (κs : Lfts 1) (order chamber start : ℕ) (buffer : _) (one other : Written) (held kept : _)
     → write_plan_line.Learnt κs (order, (chamber, (start, (buffer, tt)))) one held
     → write_plan_line.Learnt κs (order, (chamber, (start, (buffer, tt)))) other kept
     → (one ≡ other) × (held.1.1.1.0.now ≡ kept.1.1.1.0.now)
@@ -47,7 +48,7 @@ plan_text_exactly order chamber start first second ordered housed =
 -- longer than the buffer, and every byte stays; in every other case its text stands at the front, every other byte stays, and its
 -- length is answered
 pub plan_line_writes :
-    (κs : Lfts 1) (order chamber start : ℕ) (buffer : _) (answer : Result ℕ ℕ) (after : _)
+    (κs : Lfts 1) (order chamber start : ℕ) (buffer : _) (answer : Written) (after : _)
     → write_plan_line.Learnt κs (order, (chamber, (start, (buffer, tt)))) answer after
     → Writes (InRange order chamber start) (plan_text order chamber start) buffer.now answer after.1.1.1.0.now
 plan_line_writes κs order chamber start buffer answer after learnt =
@@ -57,10 +58,10 @@ plan_line_writes κs order chamber start buffer answer after learnt =
 -- 2e: what was written reads back as its three numbers, with any list's count that admits the chamber
 pub written_reads_back :
     (κs : Lfts 1) (order chamber start : ℕ) (buffer : _) (length : ℕ) (after : _)
-    → write_plan_line.Learnt κs (order, (chamber, (start, (buffer, tt)))) (Ok length) after → (count : ℕ) → chamber ≤ count
+    → write_plan_line.Learnt κs (order, (chamber, (start, (buffer, tt)))) (Length length) after → (count : ℕ) → chamber ≤ count
     → load_of count (take length after.1.1.1.0.now) ≡ right (record { order = order; chamber = chamber; start = start })
 written_reads_back κs order chamber start buffer length after learnt count admitted =
-    let writes = plan_line_writes κs order chamber start buffer (Ok length) after learnt in
+    let writes = plan_line_writes κs order chamber start buffer (Length length) after learnt in
     ap (load_of count) (writes.front length refl) ∙ back.text_reads_back order chamber start count ((writes.written length).0 refl).0 admitted
 
 -- 2e: different triples never give the same bytes

@@ -25,7 +25,7 @@ pub fn write_plan_line(order: u32, chamber: u32, start: u32, buffer: &mut [u8]) 
     )?;
     check(within(1, MOST_CHAMBERS, chamber), Refusal::OutOfRange)?;
     let mut own = [0u8; LINE_ROOM];
-    let ordered = put_number(Ok(0), order, b'\t', &mut own);
+    let ordered = put_number(Written::Length(0), order, b'\t', &mut own);
     let housed = put_number(ordered, chamber, b'\t', &mut own);
     let line = put_hour(housed, start, b'\n', &mut own);
     write_line(line, &own, buffer)

@@ -9,13 +9,11 @@ use lib.Dec.{leb, ltb}
 use native.Mathlib.Omega.{arith}
 use borrow.Rule.Slice.PartMut.{put_mid, mid_of}
 use borrow.Author.Tests.{leb-true, leb-false, ltb-true, lt-ltb, le-ltb, le-leb}
-use Rattle.std.specs.Prelude.{Option, None, Some, Result, Ok, Err}
-use Rattle.std.specs.Result.{result_unwrap_or}
+use Rattle.std.specs.Prelude.{Option, None, Some}
 use Rattle.ground.specs.Refusal.{Read, wrong, right}
 use Rattle.ground.specs.Buffer.{onto, fitted, length_of, buffer_after}
 use Rattle.ground.proofs.Tests.{by_test, never_both, second_of, not_met}
 use Rattle.ground.proofs.Buffer.{rest_of_onto, length_of_onto}
-use Rattle.writer.specs.Writing.{as_length}
 use Rattle.writer.specs.Line.{line_room}
 use Rattle.orders.proofs.Places.{moves_on}
 use Rattle.texts.specs.Lines.{line_at}
@@ -46,11 +44,6 @@ unfolding onto
 stands (wrong number) buffer = refl
 stands (right bytes) buffer = refl
 
--- how many bytes were written, none where the writing was refused
-pub counted_written : (written : Result ℕ ℕ) → result_unwrap_or written 0 ≡ count_in (as_length written)
-counted_written (Ok length) = refl
-counted_written (Err number) = refl
-
 -- what the writing of a line comes to where there is room for it
 pub counted_whole :
     (line : Read (List ℕ)) (buffer : List ℕ) → length (bytes_in line) ≤ length buffer → count_in (length_of (fitted buffer line)) ≡ length (bytes_in line)
@@ -77,7 +70,7 @@ part_back at buffer line {last} inside back =
     rest_back at buffer last inside ∙ ap (λ part. take at buffer ++ part) (back ∙ ap (onto line) (rest_of at buffer))
 
 -- of a writing behind what a buffer is filled with
-pub ruleset written_behind = (counted_written, counted_whole, held_whole, rest_of, rest_back)
+pub ruleset written_behind = (counted_whole, held_whole, rest_of, rest_back)
 
 -- by the refusal of a reply
 pub by_option : {A C : Type 0} (option : Option A) → (option ≡ None → C) → ((value : A) → option ≡ Some value → C) → C

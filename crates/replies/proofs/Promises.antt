@@ -22,7 +22,7 @@ use Rattle.texts.proofs.Promises.{lines_only}
 use Rattle.lines.specs.Meaning.{HeadingFault}
 use Rattle.lines.specs.declared.Order.{Order}
 use Rattle.writer.specs.Meaning.{Writes}
-use Rattle.std.specs.Prelude.{Result}
+use Rattle.writer.specs.declared.Written.{Written}
 use Rattle.writer.proofs.Answers as answers
 use Rattle.book.specs.declared.Book.{Book}
 use Rattle.book.specs.Taking.{answer_of}
@@ -139,7 +139,7 @@ clean_reply text heading orders clean =
 -- is longer than the buffer, and every byte stays; in every other case its line stands at the front, every other byte stays, and its length
 -- is answered
 pub answer_writes :
-    (κs : Lfts 1) (line : ℕ) (given : Answer) (buffer : _) (answer : Result ℕ ℕ) (after : _) → write_answer.Learnt κs (line, (given, (buffer, tt))) answer after
+    (κs : Lfts 1) (line : ℕ) (given : Answer) (buffer : _) (answer : Written) (after : _) → write_answer.Learnt κs (line, (given, (buffer, tt))) answer after
     → Writes (StartsPastLast given → ⊥) (reply_line line given) buffer.now answer after.1.1.0.now
 answer_writes κs line given buffer answer after learnt =
     answers.writes (start_in_range given) (StartsPastLast given → ⊥) (replying.not_past given, replying.in_range_lem given) (reply_line line given) buffer.now
@@ -147,7 +147,7 @@ answer_writes κs line given buffer answer after learnt =
 
 -- the same of the sum, which is never refused by 4
 pub sum_writes :
-    (κs : Lfts 1) (taken kept : ℕ) (buffer : _) (answer : Result ℕ ℕ) (after : _) → write_sum.Learnt κs (taken, (kept, (buffer, tt))) answer after
+    (κs : Lfts 1) (taken kept : ℕ) (buffer : _) (answer : Written) (after : _) → write_sum.Learnt κs (taken, (kept, (buffer, tt))) answer after
     → Writes (Unit {0}) (sum_line taken kept) buffer.now answer after.1.1.0.now
 sum_writes κs taken kept buffer answer after learnt =
     answers.writes true (Unit {0}) answers.always (sum_line taken kept) buffer.now (right (sum_line taken kept)) refl answer after.1.1.0.now learnt.0
@@ -155,12 +155,12 @@ sum_writes κs taken kept buffer answer after learnt =
 
 -- and each has room in 48 bytes, so that it is never refused by 7 there
 pub answer_fits :
-    (κs : Lfts 1) (line : ℕ) (given : Answer) (buffer : _) (answer : Result ℕ ℕ) (after : _) → write_answer.Learnt κs (line, (given, (buffer, tt))) answer after
+    (κs : Lfts 1) (line : ℕ) (given : Answer) (buffer : _) (answer : Written) (after : _) → write_answer.Learnt κs (line, (given, (buffer, tt))) answer after
     → (StartsPastLast given → ⊥) → length (reply_line line given) ≤ 48
 answer_fits κs line given buffer answer after learnt never = rw (replying.tested line given, replying.in_range_lem given never) at learnt.1.1
 
 pub sum_fits :
-    (κs : Lfts 1) (taken kept : ℕ) (buffer : _) (answer : Result ℕ ℕ) (after : _) → write_sum.Learnt κs (taken, (kept, (buffer, tt))) answer after
+    (κs : Lfts 1) (taken kept : ℕ) (buffer : _) (answer : Written) (after : _) → write_sum.Learnt κs (taken, (kept, (buffer, tt))) answer after
     → length (sum_line taken kept) ≤ 48
 sum_fits κs taken kept buffer answer after learnt = learnt.1.1
 
@@ -279,13 +279,13 @@ module _ (κs : Lfts 2) (text : Bor (List ℕ)) (reply : Reply) (buffer : MutBor
 
 -- 1d: each public function's contract admits a single outcome
 pub write_answer_single :
-    (κs : Lfts 1) (line : ℕ) (given : Answer) (buffer : _) (one other : Result ℕ ℕ) (held stays : _)
+    (κs : Lfts 1) (line : ℕ) (given : Answer) (buffer : _) (one other : Written) (held stays : _)
     → write_answer.Learnt κs (line, (given, (buffer, tt))) one held → write_answer.Learnt κs (line, (given, (buffer, tt))) other stays
     → (one ≡ other) × (held.1.1.0.now ≡ stays.1.1.0.now)
 write_answer_single κs line given buffer one other held stays p q = answers.single one other p.0 q.0 (p.1.0 ∙ sym q.1.0)
 
 pub write_sum_single :
-    (κs : Lfts 1) (taken kept : ℕ) (buffer : _) (one other : Result ℕ ℕ) (held stays : _)
+    (κs : Lfts 1) (taken kept : ℕ) (buffer : _) (one other : Written) (held stays : _)
     → write_sum.Learnt κs (taken, (kept, (buffer, tt))) one held → write_sum.Learnt κs (taken, (kept, (buffer, tt))) other stays
     → (one ≡ other) × (held.1.1.0.now ≡ stays.1.1.0.now)
 write_sum_single κs taken kept buffer one other held stays p q = answers.single one other p.0 q.0 (p.1.0 ∙ sym q.1.0)

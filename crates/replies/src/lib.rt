@@ -10,7 +10,7 @@ ghost use Rattle.writer.specs.Line.{line_room};
 ghost use Rattle.writer.specs.Steps.{Comes, bytes_of_all};
 ghost use Rattle.replies.specs.Replies.{sum_line, reply_written};
 ghost use Rattle.replies.specs.Filling.{bytes_in, reply_begun, line_due, past_line_due, may_go_on, Fills};
-ghost use Rattle.replies.specs.Steps.{answer_put, reply_put, sum_put, answer_room, LineBehind};
+ghost use Rattle.replies.specs.Steps.{answer_put, reply_put, sum_put, answer_room, count_in, LineBehind};
 
 use book::Answer;
 use orders::Progress;
@@ -41,7 +41,7 @@ fn put_reply(line: u32, answer: Answer, own: &mut [u8]) -> Written
     ensures comes { Comes (right 0) (reply_put line answer) own.old (as_length result) own.new }
     ensures answer_bound { bytes_of_all (reply_put line answer) ≤ line_room }
 {
-    let numbered = put_number(Ok(0), line, b'\t', own);
+    let numbered = put_number(Written::Length(0), line, b'\t', own);
     put_answer(numbered, answer, own)
 }
 
@@ -49,7 +49,7 @@ fn put_reply(line: u32, answer: Answer, own: &mut [u8]) -> Written
 fn put_sum(taken: u32, kept: u32, own: &mut [u8]) -> Written
     ensures { Comes (right 0) (sum_put taken kept) own.old (as_length result) own.new }
 {
-    let worded = put_word(Ok(0), b"sum", b'\t', own);
+    let worded = put_word(Written::Length(0), b"sum", b'\t', own);
     let numbered = put_number(worded, taken, b'\t', own);
     put_number(numbered, kept, b'\n', own)
 }
@@ -144,6 +144,16 @@ fn write_next(text: &[u8], reply: Reply, buffer: &mut [u8]) -> (Written, Reply)
     (written, ended)
 }
 
+// How many bytes a writing wrote: none where it was refused.
+fn bytes_written(written: Written) -> usize
+    ensures { result ≡ count_in (as_length written) }
+{
+    match written {
+        Written::Length(length) => length,
+        Written::Refused(_) => 0,
+    }
+}
+
 // Puts the next line of a reply behind those that a buffer is filled with; one that is refused is left out.
 #[tactic(auto, using(crate::proofs::Filling::written_behind))]
 fn put_behind(text: &[u8], filled: Filled, buffer: &mut [u8]) -> Filled
@@ -152,7 +162,7 @@ fn put_behind(text: &[u8], filled: Filled, buffer: &mut [u8]) -> Filled
 {
     let (written, reply) = write_next(text, filled.reply, &mut buffer[filled.length..]);
     Filled {
-        length: filled.length + written.unwrap_or(0),
+        length: filled.length + bytes_written(written),
         reply,
     }
 }
@@ -177,4 +187,20 @@ pub fn fill(text: &[u8], reply: Reply, buffer: &mut [u8]) -> Filled
         filled = put_behind(text, filled, buffer);
     }
     filled
+}
+
+#[cfg(test)]
+mod tests {
+    use super::*;
+
+    // What no clause says: a caller who looks at the buffer alone may leave what a writing answers unlooked at.
+    #[test]
+    fn answer_left_unlooked_at() {
+        let mut buffer = [0u8; LINE_ROOM];
+        let answer = Answer::Yes {
+            chamber: 1,
+            start: 600,
+        };
+        write_answer(2, answer, &mut buffer);
+    }
 }

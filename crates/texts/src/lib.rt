@@ -6,8 +6,8 @@ ghost use Rattle.std.specs.Prelude.{◌≡◌};
 ghost use Rattle.texts.specs.Lines.{line_at, line_start, past_line, part_of, part_start};
 ghost use Rattle.texts.specs.Meaning.{LiesAt, Starts, Hands};
 
-// The place past the line that starts at a place; the place itself where none is left. By place: `position` over what is left takes half as
-// long again where lines are short.
+// The place past the line that starts at a place; the place itself where none is left. By place: over what is left, `position` takes twice the
+// time on empty lines.
 #[tactic(auto, using(crate::proofs::Lines::past_end, crate::proofs::Lines::past_other))]
 pub fn line_end(text: &[u8], at: usize) -> usize
     ensures { result ≡ past_line text.now at }

@@ -10,7 +10,7 @@ use lib.Dec.{leb}
 use native.Mathlib.Omega.{arith}
 use borrow.Author.Tests.{leb-true, le-leb, lt-leb}
 use contract.Lifetimes.{Lfts}
-use Rattle.std.specs.Prelude.{Result, Ok, Err}
+use Rattle.std.specs.Prelude.{Ok, Err}
 use Rattle.ground.specs.Refusal.{Read, wrong, right}
 use Rattle.ground.specs.Spelling.{DigitsOf}
 use Rattle.ground.specs.Digits.{spelled}
@@ -22,10 +22,12 @@ use Rattle.ground.proofs.Outcome.{single_value}
 use Rattle.hours.specs.Reading.{hour_of}
 use Rattle.texts.specs.Meaning.{LiesAt}
 use Rattle.fields.specs.Meaning.{all_clean, tabbed, Splits}
-use Rattle.writer.specs.Writing.{hour_text, hour_written, as_length, text_in, front_of}
+use Rattle.writer.specs.Writing.{hour_text, hour_written, as_length, written_of, text_in, front_of}
 use Rattle.writer.specs.Line.{line_with, line_in}
 use Rattle.writer.specs.Steps.{fields_after, line_made, bytes_of_all}
 use Rattle.writer.specs.Meaning.{HourText, EndsIn, Writes, PutBehind}
+use Rattle.writer.specs.declared.Written.{Written}
+use Rattle.writer.specs.declared.Written.TheVariants.{Length, Refused}
 use Rattle.writer.proofs.Writing as writing
 use Rattle.writer.proofs.Line as line
 use Rattle.writer.proofs.Answers as answers
@@ -39,14 +41,21 @@ use Rattle.writer.proofs.write_line.Reads as write_line
 use Rattle.writer.proofs.text_in.Reads as text_in
 
 -- the paper's number and value for each case of an answer, and they tell its cases apart
-pub length_answered : (count : ℕ) → as_length (Ok count) ≡ right count
+pub length_answered : (count : ℕ) → as_length (Length count) ≡ right count
 length_answered count = refl
 
-pub refusal_answered : (number : ℕ) → as_length (Err number) ≡ wrong number
+pub refusal_answered : (number : ℕ) → as_length (Refused number) ≡ wrong number
 refusal_answered number = refl
 
 pub length_told : Injective as_length
 length_told = answers.length_told
+
+-- and `?` goes on with the length, or hands the refusal's number on
+pub length_handed_on : (count : ℕ) → written_of (Ok count) ≡ Length count
+length_handed_on count = refl
+
+pub refusal_handed_on : (number : ℕ) → written_of (Err number) ≡ Refused number
+refusal_handed_on number = refl
 
 -- a number has a digit at least, and at most so many exactly when it is below that power of ten
 pub digit_count_means :
@@ -85,7 +94,7 @@ in_hours hour = (leb-true hour 999_999, le-leb hour 999_999)
 -- 1b, 1c: an hour is refused by 4 exactly when it is above 999,999, whatever the room, then by 7 exactly when its text is longer than the
 -- buffer, and every byte stays; in every other case its text stands at the front, every other byte stays, and its length is answered
 pub write_hour_writes :
-    (κs : Lfts 1) (hour : ℕ) (buffer : _) (answer : Result ℕ ℕ) (after : _) → write_hour.Learnt κs (hour, (buffer, tt)) answer after
+    (κs : Lfts 1) (hour : ℕ) (buffer : _) (answer : Written) (after : _) → write_hour.Learnt κs (hour, (buffer, tt)) answer after
     → Writes (hour ≤ 999_999) (hour_text 44 hour) buffer.now answer after.1.0.now
 write_hour_writes κs hour buffer answer after learnt =
     answers.writes (leb hour 999_999) (hour ≤ 999_999) (in_hours hour) (hour_text 44 hour) buffer.now (hour_written 44 hour) (writing.tested 44 hour) answer
@@ -93,7 +102,7 @@ write_hour_writes κs hour buffer answer after learnt =
 
 -- a word and its stop are put behind a line so far
 pub put_word_puts :
-    (κs : Lfts 2) (so_far : Result ℕ ℕ) (word : _) (stop : ℕ) (buffer : _) (answer : Result ℕ ℕ) (after : _)
+    (κs : Lfts 2) (so_far : Written) (word : _) (stop : ℕ) (buffer : _) (answer : Written) (after : _)
     → put_word.Learnt κs (so_far, (word, (stop, (buffer, tt)))) answer after
     → PutBehind so_far (Unit {0}) word.now stop buffer.now answer after.1.1.1.0.now
 put_word_puts κs so_far word stop buffer answer after learnt =
@@ -102,7 +111,7 @@ put_word_puts κs so_far word stop buffer answer after learnt =
 
 -- a number's digits and their stop
 pub put_number_puts :
-    (κs : Lfts 1) (so_far : Result ℕ ℕ) (number stop : ℕ) (buffer : _) (answer : Result ℕ ℕ) (after : _)
+    (κs : Lfts 1) (so_far : Written) (number stop : ℕ) (buffer : _) (answer : Written) (after : _)
     → put_number.Learnt κs (so_far, (number, (stop, (buffer, tt)))) answer after
     → PutBehind so_far (Unit {0}) (spelled number) stop buffer.now answer after.1.1.1.0.now
 put_number_puts κs so_far number stop buffer answer after learnt =
@@ -111,7 +120,7 @@ put_number_puts κs so_far number stop buffer answer after learnt =
 
 -- an hour's text and its stop, refused by 4 above 999,999
 pub put_hour_puts :
-    (κs : Lfts 1) (so_far : Result ℕ ℕ) (hour stop : ℕ) (buffer : _) (answer : Result ℕ ℕ) (after : _)
+    (κs : Lfts 1) (so_far : Written) (hour stop : ℕ) (buffer : _) (answer : Written) (after : _)
     → put_hour.Learnt κs (so_far, (hour, (stop, (buffer, tt)))) answer after
     → PutBehind so_far (hour ≤ 999_999) (hour_text 44 hour) stop buffer.now answer after.1.1.1.0.now
 put_hour_puts κs so_far hour stop buffer answer after learnt =
@@ -134,20 +143,20 @@ pub line_splits : (field : List ℕ) (fields : List (List ℕ)) → all_clean (f
 line_splits field fields clean = record { some = omega arith; clean = clean; joined = refl }
 
 -- a line that was refused stays refused; 7 where its own buffer is shorter than was answered; else it is written whole or not at all
-module _ (κs : Lfts 2) (put : Result ℕ ℕ) (own buffer : _) (answer : Result ℕ ℕ) (after : _) (learnt : write_line.Learnt κs (put, (own, (buffer, tt))) answer after) where
-  pub refused_line_stays : (number : ℕ) → put ≡ Err number → (answer ≡ Err number) × (after.1.1.0.now ≡ buffer.now)
+module _ (κs : Lfts 2) (put : Written) (own buffer : _) (answer : Written) (after : _) (learnt : write_line.Learnt κs (put, (own, (buffer, tt))) answer after) where
+  pub refused_line_stays : (number : ℕ) → put ≡ Refused number → (answer ≡ Refused number) × (after.1.1.0.now ≡ buffer.now)
   unfolding line_in fitted
   refused_line_stays number refused = answers.passed_on answer buffer.now (fitted buffer.now (line_in (as_length put) own.now)) learnt.0 learnt.1 number (rw refused)
 
   pub long_line_refused :
-      (count : ℕ) → put ≡ Ok count → length own.now < count → (answer ≡ Err 7) × (after.1.1.0.now ≡ buffer.now)
+      (count : ℕ) → put ≡ Length count → length own.now < count → (answer ≡ Refused 7) × (after.1.1.0.now ≡ buffer.now)
   unfolding line_in fitted
   long_line_refused count counted short =
       answers.passed_on answer buffer.now (fitted buffer.now (line_in (as_length put) own.now)) learnt.0 learnt.1 7
       (rw (counted, lt-leb count (length own.now) short))
 
   pub write_line_writes :
-      (count : ℕ) → put ≡ Ok count → count ≤ length own.now
+      (count : ℕ) → put ≡ Length count → count ≤ length own.now
       → Writes (Unit {0}) (take count own.now) buffer.now answer after.1.1.0.now
   unfolding line_in
   write_line_writes count counted room =
@@ -155,16 +164,16 @@ module _ (κs : Lfts 2) (put : Result ℕ ℕ) (own buffer : _) (answer : Result
       (rw (counted, le-leb count (length own.now) room)) answer after.1.1.0.now learnt.0 learnt.1
 
 -- the text that was written: nothing for a refusal or a buffer that is shorter, else the front
-module _ (κs : Lfts 1) (written : Result ℕ ℕ) (buffer : _) (text : _) (after : _) (learnt : text_in.Learnt κs (written, (buffer, tt)) text after) where
-  pub no_text_of_a_refusal : (number : ℕ) → written ≡ Err number → text.now ≡ []
+module _ (κs : Lfts 1) (written : Written) (buffer : _) (text : _) (after : _) (learnt : text_in.Learnt κs (written, (buffer, tt)) text after) where
+  pub no_text_of_a_refusal : (number : ℕ) → written ≡ Refused number → text.now ≡ []
   unfolding text_in
   no_text_of_a_refusal number refused = learnt.0 ∙ rw refused
 
-  pub no_text_past_the_end : (count : ℕ) → written ≡ Ok count → length buffer.now < count → text.now ≡ []
+  pub no_text_past_the_end : (count : ℕ) → written ≡ Length count → length buffer.now < count → text.now ≡ []
   unfolding text_in front_of
   no_text_past_the_end count counted short = learnt.0 ∙ rw (counted, lt-leb count (length buffer.now) short)
 
-  pub text_is_the_front : (count : ℕ) → written ≡ Ok count → count ≤ length buffer.now → text.now ≡ take count buffer.now
+  pub text_is_the_front : (count : ℕ) → written ≡ Length count → count ≤ length buffer.now → text.now ≡ take count buffer.now
   unfolding text_in front_of
   text_is_the_front count counted room = learnt.0 ∙ rw (counted, le-leb count (length buffer.now) room)
 
@@ -174,16 +183,16 @@ module _ (κs : Lfts 1) (written : Result ℕ ℕ) (buffer : _) (text : _) (afte
 
 -- what was written, to whatever buffer it fits, is the text that stands in it
 pub written_stands :
-    (buffer : List ℕ) (text : Read (List ℕ)) (bytes : List ℕ) (written : Result ℕ ℕ) → fitted buffer text ≡ right bytes
+    (buffer : List ℕ) (text : Read (List ℕ)) (bytes : List ℕ) (written : Written) → fitted buffer text ≡ right bytes
     → as_length written ≡ length_of (fitted buffer text) → text_in written (buffer_after buffer (fitted buffer text)) ≡ bytes
 written_stands = writing.written_stands
 
 -- 2e: what was written reads back as the hour
 pub written_reads_back :
-    (κs : Lfts 1) (hour : ℕ) (buffer : _) (count : ℕ) (after : _) → write_hour.Learnt κs (hour, (buffer, tt)) (Ok count) after
+    (κs : Lfts 1) (hour : ℕ) (buffer : _) (count : ℕ) (after : _) → write_hour.Learnt κs (hour, (buffer, tt)) (Length count) after
     → hour_of 44 (take count after.1.0.now) ≡ right hour
 written_reads_back κs hour buffer count after learnt =
-    let writes = write_hour_writes κs hour buffer (Ok count) after learnt in
+    let writes = write_hour_writes κs hour buffer (Length count) after learnt in
     ap (hour_of 44) (writes.front count refl) ∙ writing.reads_back 44 refl hour ((writes.written count).0 refl).0
 
 -- 2e: different hours never give the same bytes
@@ -200,36 +209,36 @@ pub put_digits_single :
 put_digits_single κs number buffer one other held kept p q = (refl, p ∙ sym q)
 
 pub write_hour_single :
-    (κs : Lfts 1) (hour : ℕ) (buffer : _) (one other : Result ℕ ℕ) (held kept : _) → write_hour.Learnt κs (hour, (buffer, tt)) one held
+    (κs : Lfts 1) (hour : ℕ) (buffer : _) (one other : Written) (held kept : _) → write_hour.Learnt κs (hour, (buffer, tt)) one held
     → write_hour.Learnt κs (hour, (buffer, tt)) other kept → (one ≡ other) × (held.1.0.now ≡ kept.1.0.now)
 write_hour_single κs hour buffer one other held kept p q = answers.single one other p.0 q.0 (p.1 ∙ sym q.1)
 
 pub put_word_single :
-    (κs : Lfts 2) (so_far : Result ℕ ℕ) (word : _) (stop : ℕ) (buffer : _) (one other : Result ℕ ℕ) (held kept : _)
+    (κs : Lfts 2) (so_far : Written) (word : _) (stop : ℕ) (buffer : _) (one other : Written) (held kept : _)
     → put_word.Learnt κs (so_far, (word, (stop, (buffer, tt)))) one held → put_word.Learnt κs (so_far, (word, (stop, (buffer, tt)))) other kept
     → (one ≡ other) × (held.1.1.1.0.now ≡ kept.1.1.1.0.now)
 put_word_single κs so_far word stop buffer one other held kept p q = answers.single one other p.0 q.0 (p.1 ∙ sym q.1)
 
 pub put_number_single :
-    (κs : Lfts 1) (so_far : Result ℕ ℕ) (number stop : ℕ) (buffer : _) (one other : Result ℕ ℕ) (held kept : _)
+    (κs : Lfts 1) (so_far : Written) (number stop : ℕ) (buffer : _) (one other : Written) (held kept : _)
     → put_number.Learnt κs (so_far, (number, (stop, (buffer, tt)))) one held → put_number.Learnt κs (so_far, (number, (stop, (buffer, tt)))) other kept
     → (one ≡ other) × (held.1.1.1.0.now ≡ kept.1.1.1.0.now)
 put_number_single κs so_far number stop buffer one other held kept p q = answers.single one other p.0 q.0 (p.1 ∙ sym q.1)
 
 pub put_hour_single :
-    (κs : Lfts 1) (so_far : Result ℕ ℕ) (hour stop : ℕ) (buffer : _) (one other : Result ℕ ℕ) (held kept : _)
+    (κs : Lfts 1) (so_far : Written) (hour stop : ℕ) (buffer : _) (one other : Written) (held kept : _)
     → put_hour.Learnt κs (so_far, (hour, (stop, (buffer, tt)))) one held → put_hour.Learnt κs (so_far, (hour, (stop, (buffer, tt)))) other kept
     → (one ≡ other) × (held.1.1.1.0.now ≡ kept.1.1.1.0.now)
 put_hour_single κs so_far hour stop buffer one other held kept p q = answers.single one other p.0 q.0 (p.1 ∙ sym q.1)
 
 pub write_line_single :
-    (κs : Lfts 2) (put : Result ℕ ℕ) (own buffer : _) (one other : Result ℕ ℕ) (held kept : _) → write_line.Learnt κs (put, (own, (buffer, tt))) one held
+    (κs : Lfts 2) (put : Written) (own buffer : _) (one other : Written) (held kept : _) → write_line.Learnt κs (put, (own, (buffer, tt))) one held
     → write_line.Learnt κs (put, (own, (buffer, tt))) other kept → (one ≡ other) × (held.1.1.0.now ≡ kept.1.1.0.now)
 write_line_single κs put own buffer one other held kept p q = answers.single one other p.0 q.0 (p.1 ∙ sym q.1)
 
 -- of a returned part: its bytes, and where it lies
 pub text_in_single :
-    (κs : Lfts 1) (written : Result ℕ ℕ) (buffer : _) (one other : _) (after : _) → text_in.Learnt κs (written, (buffer, tt)) one after
+    (κs : Lfts 1) (written : Written) (buffer : _) (one other : _) (after : _) → text_in.Learnt κs (written, (buffer, tt)) one after
     → text_in.Learnt κs (written, (buffer, tt)) other after → (one.now ≡ other.now) × (one.ref_ptr.0 ≡ other.ref_ptr.0) × (one.ref_ptr.1 ≡ other.ref_ptr.1)
 text_in_single κs written buffer one other after p q = (p.0 ∙ sym q.0, p.1.0 ∙ sym q.1.0, p.1.1 ∙ sym q.1.1)
 

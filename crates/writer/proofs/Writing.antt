@@ -9,7 +9,8 @@ use native.Mathlib.Nat.{pow-suc}
 use native.Mathlib.Omega.{arith}
 use borrow.Author.Tests.{le-leb, leb-true, leb-false}
 use Rattle.std.proofs.Common.{max}
-use Rattle.std.specs.Prelude.{Result, Ok, Err}
+use Rattle.writer.specs.declared.Written.{Written}
+use Rattle.writer.specs.declared.Written.TheVariants.{Length, Refused}
 use Rattle.ground.specs.Refusal.{Read, right, check, ◌>>◌}
 use Rattle.ground.specs.Limits.{last_hour}
 use Rattle.ground.specs.Digits.{last_digit, last_digits, spelled}
@@ -97,14 +98,14 @@ module _ (mark : ℕ) (unlike : is_digit mark ≡ false) where
 
 -- what was written, to whatever buffer it fits, is the text that stands in it
 pub written_stands :
-    (buffer : List ℕ) (text : Read (List ℕ)) (bytes : List ℕ) (written : Result ℕ ℕ) → fitted buffer text ≡ right bytes
+    (buffer : List ℕ) (text : Read (List ℕ)) (bytes : List ℕ) (written : Written) → fitted buffer text ≡ right bytes
     → as_length written ≡ length_of (fitted buffer text) → text_in written (buffer_after buffer (fitted buffer text)) ≡ bytes
 unfolding text_in front_of
-written_stands buffer text bytes (Ok count) fits answered =
+written_stands buffer text bytes (Length count) fits answered =
     let size : count ≡ length bytes = same_right (answered ∙ ap length_of fits) in
     let room : length bytes ≤ length (onto bytes buffer) = omega (arith, ap length (front_of_onto bytes buffer), length-take (length bytes) (onto bytes buffer)) in
     rw (fits, size, le-leb (length bytes) (length (onto bytes buffer)) room, front_of_onto bytes buffer)
-written_stands buffer text bytes (Err number) fits answered = absurd (never_right (answered ∙ ap length_of fits))
+written_stands buffer text bytes (Refused number) fits answered = absurd (never_right (answered ∙ ap length_of fits))
 
 -- the last digits of a number are what it ends in
 pub ends_in : (count number : ℕ) → EndsIn number (last_digits count number)

@@ -3,6 +3,8 @@ use Rattle.std.specs.Prelude.{ℕ, ◌/◌, cond, List, [], ◌∷◌, ◌++◌,
 use Rattle.ground.specs.Refusal.{Read, wrong, right, check, ◌>>◌}
 use Rattle.ground.specs.Limits.{last_hour}
 use Rattle.ground.specs.Digits.{last_digit, spelled}
+use Rattle.writer.specs.declared.Written.{Written}
+use Rattle.writer.specs.declared.Written.TheVariants.{Length, Refused}
 
 -- an hour's text: the whole hours, the mark, the tenth and the hundredth
 unfoldable pub hour_text : ℕ → ℕ → List ℕ
@@ -15,15 +17,20 @@ hour_written mark hour = do
   right (hour_text mark hour)
 
 -- the paper's number and value for each case of the answer
-abbrev pub as_length : Result ℕ ℕ → Read ℕ
-as_length (Ok length) = right length
-as_length (Err number) = wrong number
+abbrev pub as_length : Written → Read ℕ
+as_length (Length length) = right length
+as_length (Refused number) = wrong number
 
 -- the text that was written to a buffer: its front, as long as was answered; nothing
 -- where the writing was refused, or the buffer is shorter
 unfoldable pub front_of : ℕ → List ℕ → List ℕ
 front_of count buffer = cond (leb count (length buffer)) (take count buffer) []
 
-unfoldable pub text_in : Result ℕ ℕ → List ℕ → List ℕ
-text_in (Ok length) buffer = front_of length buffer
-text_in (Err number) buffer = []
+unfoldable pub text_in : Written → List ℕ → List ℕ
+text_in (Length length) buffer = front_of length buffer
+text_in (Refused number) buffer = []
+
+-- the writing that says what a `Result` says
+abbrev pub written_of : Result ℕ ℕ → Written
+written_of (Ok length) = Length length
+written_of (Err number) = Refused number

@@ -3,33 +3,81 @@
 #![tactic(auto)]
 
 ghost use Rattle.std.specs.Prelude.{◌≡◌, ℕ, List, length};
+ghost use Rattle.std.specs.Result.{result_from_control_flow};
 ghost use Rattle.std.specs.Fn.{FnOnceTakesAtMut, FnOnceReturnsAtMut};
-ghost use Rattle.ground.specs.Refusal.{right};
+ghost use Rattle.ground.specs.Refusal.{right, refusal_number};
 ghost use Rattle.ground.specs.Digits.{spelled, last_digits};
 ghost use Rattle.ground.specs.Buffer.{fitted, length_of, buffer_after};
 ghost use Rattle.texts.specs.Meaning.{LiesAt};
 ghost use Rattle.classes.specs.Classes.{comma};
-ghost use Rattle.writer.specs.Writing.{hour_text, hour_written, as_length, text_in};
+ghost use Rattle.writer.specs.Writing.{hour_text, hour_written, as_length, text_in, written_of};
+ghost use Rattle.writer.specs.declared.Written.TheVariants.{Refused};
 ghost use Rattle.writer.specs.Line.{place_after, held_after, line_in};
 ghost use Rattle.writer.specs.Steps.{Puts};
 
 use ground::{LAST_HOUR, Refusal, check};
+use std::ops::{ControlFlow, FromResidual, Try};
 use texts::part;
 
 // Room enough for any line that a program prints or a plan has: an array of so many bytes, since a writer that asks for memory could fail.
 pub const LINE_ROOM: usize = 48;
 
 // What a writing answers: the length of what stands at the buffer's front now, or the refusal's number.
-// The error is a number, since a line that was refused by any number stays refused by it. The length stands beside the buffer, which is the
-// caller's: nothing here asks for memory.
-pub type Written = Result<usize, u32>;
+// It is a number, since a line that was refused by any number stays refused by it. The length stands beside the buffer, which is the
+// caller's: nothing here asks for memory. It is no `Result`, since a caller who looks at the buffer alone may leave it unlooked at.
+#[derive(Clone, Copy, Debug, PartialEq, Eq)]
+pub enum Written {
+    Length(usize),
+    Refused(u32),
+}
 
-// How many digits a number is spelled with.
-#[tactic(auto, using(crate::proofs::Writing::counted_by_log))]
+// `?` goes on with the length, and hands a refusal on as that of a `Result` does, so that a caller may use it in a function of either.
+impl Try for Written {
+    type Output = usize;
+
+    type Residual = <Result<usize, u32> as Try>::Residual;
+
+    ghost branch_gives = { λ written flow. written ≡ written_of (result_from_control_flow flow) };
+
+    fn branch(self) -> ControlFlow<Self::Residual, usize> {
+        match self {
+            Written::Length(length) => ControlFlow::Continue(length),
+            Written::Refused(number) => Err(number).branch(),
+        }
+    }
+
+    fn from_output(output: usize) -> Written {
+        Written::Length(output)
+    }
+}
+
+// A refusal that `?` hands on, by its number: of a writing, and of a check.
+impl FromResidual<<Written as Try>::Residual> for Written {
+    ghost from_residual_gives = { λ refused written. written ≡ Refused refused.0 };
+
+    fn from_residual(refused: <Written as Try>::Residual) -> Written {
+        Written::Refused(refused.0)
+    }
+}
+
+impl FromResidual<<Result<(), Refusal> as Try>::Residual> for Written {
+    ghost from_residual_gives = { λ refused written. written ≡ Refused (refusal_number refused.0) };
+
+    fn from_residual(refused: <Result<(), Refusal> as Try>::Residual) -> Written {
+        Written::Refused(refused.0.number())
+    }
+}
+
+// How many digits a number is spelled with. One digit is told apart first: its logarithm would take twice as long as counting it.
+#[tactic(auto, using(ground::proofs::Digits::length_one, crate::proofs::Writing::counted_by_log))]
 pub fn digit_count(number: u32) -> usize
     ensures { result ≡ length (spelled number) }
 {
-    number.max(1).ilog10() as usize + 1
+    if number < 10 {
+        1
+    } else {
+        number.ilog10() as usize + 1
+    }
 }
 
 // Fills a buffer with the last digits of a number, as many as it has room for.
@@ -79,7 +127,7 @@ pub fn write_hour(hour: u32, buffer: &mut [u8]) -> Written
     check(hour <= LAST_HOUR, Refusal::OutOfRange)?;
     check(length <= buffer.len(), Refusal::NoRoom)?;
     fill_hour(hour, &mut buffer[..length]);
-    Ok(length)
+    Written::Length(length)
 }
 
 // Puts a field of so many bytes, and the byte that stops it, from a place of a buffer on: refusal 7 where they have no room.
@@ -100,7 +148,7 @@ fn put_field<F: FnOnce(&mut [u8])>(
     let end = at + size;
     fill(&mut buffer[at..end]);
     buffer[end] = stop;
-    Ok(end + 1)
+    Written::Length(end + 1)
 }
 
 // Puts a word and the byte that stops it behind a line so far: refusal 7 where they have no room.
@@ -153,7 +201,7 @@ pub fn write_line(line: Written, own: &[u8], buffer: &mut [u8]) -> Written
     check(count <= own.len(), Refusal::NoRoom)?;
     check(count <= buffer.len(), Refusal::NoRoom)?;
     buffer[..count].copy_from_slice(&own[..count]);
-    Ok(count)
+    Written::Length(count)
 }
 
 // The text that was written to a buffer, as a part of that buffer from its front on; nothing where the writing was refused.
@@ -163,7 +211,7 @@ pub fn text_in<'a>(written: Written, buffer: &'a [u8]) -> &'a [u8]
     ensures lies_at { LiesAt result buffer.entry 0 }
 {
     match written {
-        Ok(length) => part(buffer, 0, length),
-        Err(_) => &buffer[..0],
+        Written::Length(length) => part(buffer, 0, length),
+        Written::Refused(_) => &buffer[..0],
     }
 }
